@@ -1,7 +1,10 @@
 // How large a plant, its figures and its texts may be.
 pub const MIN_STATIONS: usize = 2;
+
 pub const MAX_STATIONS: usize = 64;
+
 pub const MIN_LINES: usize = 1;
+
 pub const MAX_LINES: usize = 128;
 
 // A tree with a leaf for each line has one join fewer.

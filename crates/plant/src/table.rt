@@ -18,7 +18,10 @@ impl<T: Copy, const N: usize> Table<T, N> {
         ensures listed { λ r. ⌜ listed r ≡ [] ⌝ }
         ensures sound { λ r. ⌜ Sound r ⌝ }
     {
-        Table { rows: [blank; N], count: 0 }
+        Table {
+            rows: [blank; N],
+            count: 0,
+        }
     }
 
     // One row more; false where it is full.
