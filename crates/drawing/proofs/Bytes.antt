@@ -13,6 +13,7 @@ use Rattle.std.specs.declared.option.Option.the-variants.{Some, None}
 use Rattle.std.specs.declared.result.Result.the-variants.{Ok, Err}
 use Rattle.plant.specs.declared.refusal.Refusal.{Refusal}
 use Rattle.plant.specs.declared.refusal.Part.the-variants as P
+use Rattle.plant.specs.declared.refusal.Reason.{Reason}
 use Rattle.plant.specs.declared.tree.Join.{Join}
 use Rattle.plant.specs.declared.tree.Join.the-variants.{Series, Parallel}
 use Rattle.plant.specs.declared.refusal.Reason.the-variants.{TreeGrammar}
@@ -21,7 +22,7 @@ use Rattle.drawing.specs.declared.mark.Mark.the-variants.{Open, Comma, Close, 
 use Rattle.drawing.specs.declared.text.Text.{Text}
 use Rattle.drawing.specs.Marks.{sign, digit, mark-of, first-mark, Fair, letter-of}
 use Rattle.drawing.specs.Grammar.{Out, good, bad, lit, letter, stop, digits}
-use Rattle.drawing.specs.Reads.{rest, Sound, Ahead, Peeked, next-digit, Reads, capped}
+use Rattle.drawing.specs.Reads.{rest, Sound, Ahead, Peeked, next-digit, Faulted, Reads, capped}
 
 pub by-bool : {P : Type 0} (b : Bool) → (b ≡ true → P) → (b ≡ false → P) → P
 by-bool true f g = f refl
@@ -39,12 +40,12 @@ mark-says b =
     cond-both (eqb b 41) _ _ (Says b) (λ e. (eqb-true b 41 e, tt)) (λ _.
     cond-both (eqb b 59) _ _ (Says b) (λ e. (eqb-true b 59 e, tt)) (λ _.
     cond-both (digit b) _ _ (Says b)
-        (λ e.
-            let both = and-parts (leb 48 b) (leb b 57) e in
-            let low = leb-true 48 b (both .0) in
-            let high = leb-true b 57 (both .1) in
-            (omega arith, omega arith))
-        (λ _.
+    (λ e.
+    let both = and-parts (leb 48 b) (leb b 57) e in
+    let low = leb-true 48 b (both .0) in
+    let high = leb-true b 57 (both .1) in
+    (omega arith, omega arith))
+    (λ _.
     cond-both (eqb b 115) _ _ (Says b) (λ e. (eqb-true b 115 e, tt)) (λ _.
     cond-both (eqb b 112) _ _ (Says b) (λ e. (eqb-true b 112 e, tt)) (λ _. tt)))))))
 
@@ -95,26 +96,26 @@ digit-other [] n = refl
 digit-other (b ∷ s) n =
     cond-both (digit b) (Some (b - 48)) None (λ o. o ≡ None)
     (λ e.
-        let both = and-parts (leb 48 b) (leb b 57) e in
-        let low = leb-true 48 b (both .0) in
-        let high = leb-true b 57 (both .1) in
-        let is : b ≡ 48 + (b - 48) = omega arith in
-        absurd (n (b - 48) (ap mark-of is ∙ sign-digit (b - 48) (omega arith))))
+    let both = and-parts (leb 48 b) (leb b 57) e in
+    let low = leb-true 48 b (both .0) in
+    let high = leb-true b 57 (both .1) in
+    let is : b ≡ 48 + (b - 48) = omega arith in
+    absurd (n (b - 48) (ap mark-of is ∙ sign-digit (b - 48) (omega arith))))
     (λ e. refl)
 
 pub stop-more : (b : ℕ) (s u : List ℕ) → s ≡ b ∷ u → stop s ≡ bad TreeGrammar s
 stop-more b s u e = rw e refl
 
+-- a refusal with its reason and its place
+pub faulted : {A : Type 0} (o : Out A) (why : Reason) (p : ℕ) (src : List ℕ) (e : Refusal) → e ≡ record { reason = why; part = P.Tree; place = p } → p ≤ length src → o ≡ bad why (drop p src) → Faulted e o src
+faulted o why p src e is le h =
+    let at : e .place ≡ p = ap (λ x. x .place) is in
+    let r : e .reason ≡ why = ap (λ x. x .reason) is in
+    record { told = h ∙ (λ i. bad (sym r i) (drop (sym at i) src)); within = rw at le; part = ap (λ x. x .part) is }
+
 -- the refusal of the byte where the reader stands
 pub faulted-here : {A : Type 0} (f : List ℕ → Out A) (t : Text) (e : Refusal) → Sound t → f (rest t) ≡ bad TreeGrammar (rest t) → e ≡ record { reason = TreeGrammar; part = P.Tree; place = t .pos } → Reads f t t (Err e)
-faulted-here f t e w h is =
-    let at : e .place ≡ t .pos = ap (λ x. x .place) is in
-    let why : e .reason ≡ TreeGrammar = ap (λ x. x .reason) is in
-    record {
-      src = refl;
-      sound = w;
-      told = record { told = h ∙ (λ i. bad (sym why i) (drop (sym at i) (t .src .now))); within = rw at (w .within); part = ap (λ x. x .part) is };
-    }
+faulted-here f t e w h is = record { src = refl; sound = w; told = faulted (f (rest t)) TreeGrammar (t .pos) (t .src .now) e is (w .within) h }
 
 -- digits past the cap do not count
 pub capped-digits : (s : List ℕ) (n m : ℕ) → min n 128 ≡ min m 128 → capped (digits n s) ≡ capped (digits m s)

@@ -1,2 +1,11 @@
 pub mod Bytes
 pub mod Marking
+pub mod Growing
+pub mod Meeting
+pub mod Steps
+pub mod Wholes
+pub mod Numbering
+pub mod Spelling
+pub mod Building
+pub mod Laws
+pub mod Verdicts

@@ -11,6 +11,7 @@ use Rattle.std.proofs.shelf.Counted.{fill-by-all, length-map-counting, getD-map
 use Rattle.std.proofs.shelf.Sums.{sumBy-set, countBy-le-length}
 use Rattle.std.proofs.shelf.Lists.{length-set}
 use Rattle.drawing.specs.Halves.{marks}
+use Rattle.drawing.specs.Sketches.{tally}
 
 pub marks-all : (f : ℕ → Bool) (xs : List Bool) → length xs ≡ 64 → ((k : ℕ) → k < 64 → getD xs k false ≡ f k) → xs ≡ marks f
 unfolding marks
@@ -26,3 +27,17 @@ getD-marks f i lt = getD-map-counting f 0 64 i i false lt (omega arith)
 
 pub marks-same : (f g : ℕ → Bool) → ((i : ℕ) → i < 64 → f i ≡ g i) → marks f ≡ marks g
 marks-same f g all = marks-all g (marks f) (length-marks f) (λ k lt. getD-marks f k lt ∙ all k lt)
+
+-- one mark more
+pub tally-more : (xs : List Bool) (k : ℕ) → k < length xs → getD xs k false ≡ false → tally (set xs k true) ≡ tally xs + 1
+tally-more xs k lt free =
+    let none : _≡_ {A = ℕ} (cond (getD xs k false) 1 0) 0 = rw free refl in
+    omega (arith, sumBy-set (λ b. cond b 1 0) xs k true false lt, none)
+
+-- not all are set
+pub tally-lt : (xs : List Bool) (k : ℕ) → k < length xs → getD xs k false ≡ false → tally xs < length xs
+tally-lt xs k lt free =
+    omega (arith, tally-more xs k lt free, countBy-le-length (λ b. b) (set xs k true), length-set xs k true)
+
+pub tally-le : (xs : List Bool) → tally xs ≤ length xs
+tally-le xs = countBy-le-length (λ b. b) xs

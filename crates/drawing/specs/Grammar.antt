@@ -97,16 +97,16 @@ head m f named [] = bad TreeGrammar []
 head m f named (b ∷ s) = cond (eqb b 40) (f named s) (leaf-line m named (b ∷ s))
 
 -- what follows an opening bracket, where d brackets may stand open from it on
-abbrev pub opened : Net → ℕ → ℕ → Lines → List ℕ → Out Tree
-opened N m zero named s = bad TooDeep (40 ∷ s)
-opened N m (suc d) named s = after-open N (head m (opened N m d)) named s
+abbrev pub opened : ℕ → Net → ℕ → Lines → List ℕ → Out Tree
+opened zero N m named s = bad TooDeep (40 ∷ s)
+opened (suc d) N m named s = after-open N (head m (opened d N m)) named s
 
 -- a subtree in which at most d brackets stand open at once
-abbrev pub subtree : Net → ℕ → ℕ → Lines → List ℕ → Out Tree
-subtree N m d named s = head m (opened N m d) named s
+abbrev pub subtree : ℕ → Net → ℕ → Lines → List ℕ → Out Tree
+subtree d N m named s = head m (opened d N m) named s
 
-abbrev pub pair : Net → ℕ → ℕ → Lines → List ℕ → Out Tree
-pair N m d named s = after-open N (subtree N m d) named s
+abbrev pub pair : ℕ → Net → ℕ → Lines → List ℕ → Out Tree
+pair d N m named s = after-open N (subtree d N m) named s
 
 -- every line and station is there, and the whole runs from the first station to the last
 abbrev pub complete : Net → ℕ → ℕ → Tree → Bool
@@ -115,7 +115,10 @@ complete N n m t = below m (λ k. ltb 0 (uses t k)) && (below n (station-of N t)
 abbrev pub none-named : Lines
 none-named k = false
 
--- a whole text: a subtree, a semicolon, the end, and then the plant of n stations and m lines
-abbrev pub whole : Net → ℕ → ℕ → List ℕ → Out Tree
-whole N n m s =
-    then (subtree N m 127 none-named s) (λ t s. then (lit Semicolon s) (λ _ s. then (stop s) (λ _ s. cond (complete N n m t) (good t s) (bad NotThePlant s))))
+-- what follows the tree: a semicolon and the end; and then it has to be the plant of n stations and m lines
+abbrev pub ending : Net → ℕ → ℕ → Tree → List ℕ → Out Tree
+ending N n m t s = then (lit Semicolon s) (λ _ s. then (stop s) (λ _ s. cond (complete N n m t) (good t s) (bad NotThePlant s)))
+
+-- a whole text
+abbrev pub whole : ℕ → Net → ℕ → ℕ → List ℕ → Out Tree
+whole d N n m s = then (subtree d N m none-named s) (ending N n m)

@@ -26,6 +26,10 @@ abbrev pub Meet : Join → Half → Half → Type 0
 Meet Series p q = (p .right ≡ q .left) × ShareOnly (p .stations) (q .stations) (p .right) (p .right)
 Meet Parallel p q = (p .left ≡ q .left) × (p .right ≡ q .right) × ShareOnly (p .stations) (q .stations) (p .left) (p .right)
 
+-- the half is the piece of n stations from the first to the last
+abbrev pub Spans : ℕ → Half → Type 0
+Spans n h = All (h .stations) n × (h .left ≡ 0) × (h .right + 1 ≡ n)
+
 abbrev pub either : ℕ → ℕ → ℕ → Bool
 either x y i = eqb x i || eqb y i
 

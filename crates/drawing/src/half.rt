@@ -5,8 +5,7 @@ ghost use Prim.Native.Nat.{ℕ, _<_, _≤_};
 ghost use lib.Dec.{eqb};
 ghost use lib.ListN.{length, getD};
 ghost use Rattle.std.specs.Orderings.{Decides};
-ghost use Rattle.drawing.specs.Halves.{All, ShareOnly, Meet, marks, either};
-
+ghost use Rattle.drawing.specs.Halves.{All, ShareOnly, Meet, Spans, marks, either};
 use plant::tree::Join;
 
 // Its node, the ends of its piece, and the stations of its piece.
@@ -19,6 +18,16 @@ pub struct Half {
 }
 
 impl Half {
+    // What stands where no half does.
+    pub fn none() -> Half {
+        Half {
+            node: 0,
+            left: 0,
+            right: 0,
+            stations: [false; 64],
+        }
+    }
+
     // Whether the two meet as the join asks.
     pub fn meets(&self, join: Join, other: &Half) -> bool
         ensures { λ r. ⌜ Decides r (Meet join (now (self .entry)) (now (other .entry))) ⌝ }
@@ -40,6 +49,23 @@ impl Half {
                 share_only(&self.stations, &other.stations, self.left, self.right)
             }
         }
+    }
+
+    // Whether its piece has all of so many stations, and runs from the first to the last.
+    pub fn spans(&self, stations: usize) -> bool
+        requires { ⌜ stations ≤ 64 ⌝ }
+        ensures { λ r. ⌜ Decides r (Spans stations (now (self .entry))) ⌝ }
+    {
+        if stations == 0 {
+            return false;
+        }
+        if self.left != 0 {
+            return false;
+        }
+        if self.right != stations - 1 {
+            return false;
+        }
+        all_marked(&self.stations, stations)
     }
 }
 

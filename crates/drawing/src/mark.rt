@@ -1,7 +1,6 @@
 // The characters of a tree's text.
 ghost use mathlib.Core.Path.{_≡_};
 ghost use Rattle.drawing.specs.Marks.{mark-of};
-
 use plant::tree::Join;
 use plant::tree::JoinPartialEq;
 

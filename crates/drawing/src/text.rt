@@ -8,15 +8,14 @@ ghost use Rattle.drawing.specs.Reads.{Sound, Peeked, PeekedDigit, Reads, cappe
 ghost use Rattle.std.specs.declared.result.Result.the-variants.{Ok};
 ghost use Rattle.plant.specs.declared.refusal.Reason.the-variants.{TreeGrammar};
 ghost use Rattle.plant.specs.declared.refusal.Part.the-variants as P;
-
 use crate::mark::Mark;
+use crate::mark::MarkPartialEq;
 use crate::mark::mark_of;
 use plant::limits::MAX_LINES;
 use plant::refusal::Part;
 use plant::refusal::Reason;
 use plant::refusal::Refusal;
 use plant::tree::Join;
-use crate::mark::MarkPartialEq;
 
 pub fn refusal(reason: Reason, place: usize) -> Refusal
     requires { ⌜ place ≤ 65535 ⌝ }
@@ -31,8 +30,8 @@ pub fn refusal(reason: Reason, place: usize) -> Refusal
 
 #[derive(Drop)]
 pub struct Text<'a> {
-    src: &'a [u8],
-    pos: usize,
+    pub src: &'a [u8],
+    pub pos: usize,
 }
 
 impl<'a> Text<'a> {
