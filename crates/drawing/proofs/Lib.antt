@@ -9,3 +9,6 @@ pub mod Spelling
 pub mod Building
 pub mod Laws
 pub mod Verdicts
+pub mod Writing
+pub mod Looks
+pub mod Finding

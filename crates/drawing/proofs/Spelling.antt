@@ -15,6 +15,7 @@ use Rattle.plant.specs.declared.refusal.Reason.{Reason}
 use Rattle.drawing.specs.Marks.{digit}
 use Rattle.drawing.specs.Grammar.{Out, good, bad, digits, after-zero, after-first, number}
 use Rattle.drawing.specs.Written.{spelled}
+use Rattle.drawing.specs.Faults.{NoDigit}
 use Rattle.drawing.proofs.Bytes.{by-bool}
 
 -- a refusal is not a value
@@ -96,11 +97,6 @@ number-good (b ∷ s) k u e =
     (λ d. clash _ _ u k (rw d at e))
 
 -- ---- what is spelled is read
-
--- no digit follows
-abbrev pub NoDigit : List ℕ → Type 0
-NoDigit [] = Unit {0}
-NoDigit (b ∷ s) = digit b ≡ false
 
 digits-text : (ds : List ℕ) (n : ℕ) (u : List ℕ) → Under 10 ds → NoDigit u → digits n (text ds ++ u) ≡ good (numberAfter 10 n ds) u
 digits-text [] n [] w h = refl

@@ -2,7 +2,7 @@
 ghost use mathlib.Core.Path.{_≡_};
 ghost use Prim.Native.Nat.{ℕ, _<_, _≤_};
 ghost use lib.ListN.{length};
-ghost use Rattle.drawing.specs.Verdict.{Joins, Answers};
+ghost use Rattle.drawing.specs.Verdict.{Joins, Answers, AcceptedWhenWritten, RefusedAtFirstFault};
 
 mod half;
 mod mark;
@@ -36,4 +36,18 @@ pub fn read(text: &[u8], stations: usize, lines: &[Line]) -> Result<Table<Node, 
     let mut reader = Reader { text, sketch };
     reader.whole(stations)?;
     Ok(reader.sketch.nodes)
+}
+
+// A text is accepted exactly when it is the writing of a tree that draws the plant, and there is one such tree.
+pub fn accepted_when_written() -> u8
+    ensures { λ _. ⌜ AcceptedWhenWritten ⌝ }
+{
+    0
+}
+
+// A text that is not accepted is refused at its first fault, and everything before it is in order.
+pub fn refused_at_first_fault() -> u8
+    ensures { λ _. ⌜ RefusedAtFirstFault ⌝ }
+{
+    0
 }
