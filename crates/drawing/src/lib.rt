@@ -51,3 +51,6 @@ pub fn refused_at_first_fault() -> u8
 {
     0
 }
+
+#[cfg(test)]
+mod tests;
