@@ -1,0 +1,5 @@
+pub mod Going
+pub mod Sweep
+pub mod Complete
+pub mod Capped
+pub mod Spelling

@@ -1,0 +1,5 @@
+pub mod Written
+pub mod Machine
+pub mod Reads
+pub mod Laws
+pub mod Numerals
