@@ -1,0 +1,5 @@
+mod Reading
+pub mod Plain
+pub mod Columns
+pub mod StationRow
+pub mod LineRow
