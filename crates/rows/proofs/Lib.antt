@@ -3,3 +3,4 @@ pub mod Plain
 pub mod Columns
 pub mod StationRow
 pub mod LineRow
+pub mod Ranges

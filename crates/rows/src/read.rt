@@ -3,9 +3,20 @@ ghost use mathlib.Core.Path.{_≡_};
 ghost use Prim.Native.Nat.{ℕ, _+_, _<_, _≤_};
 ghost use denote.Ref.{now as at};
 ghost use lib.ListN.{length};
+ghost use Rattle.std.specs.Vec.{made};
+ghost use Rattle.plant.specs.Records.{StationsInRange, LinesInRange, LinesBetween};
+ghost use Rattle.plant.specs.Tables.{listed};
 ghost use Rattle.tables.specs.Reads.{Sound};
+ghost use Rattle.rows.specs.Lines.{lines as lineRules};
+ghost use Rattle.rows.specs.Stations.{stations as stationRules};
 ghost use Rattle.rows.specs.Verdict.{Agrees, NextRecord};
 use crate::kind::Kind;
+use crate::lines::LineRows;
+use crate::lines::LineRowsKind;
+use crate::stations::StationRows;
+use crate::stations::StationRowsKind;
+use plant::records::Line;
+use plant::records::Station;
 use plant::refusal::Part;
 use plant::refusal::Reason;
 use plant::refusal::Refusal;
@@ -72,4 +83,23 @@ pub fn read<K: Kind, const N: usize>(
         });
     }
     Ok(table)
+}
+
+// The stations of a table's text, or its first fault.
+pub fn read_stations(text: &[u8]) -> Result<Table<Station, 64>, Refusal>
+    requires { ⌜ length (now text) ≤ 65535 ⌝ }
+    ensures verdict { λ r. ⌜ Agrees stationRules Part.Stations (now (text .entry)) r ⌝ }
+    ensures range { λ r. ⌜ made r (λ t. StationsInRange (listed t) × (2 ≤ length (listed t))) ⌝ }
+{
+    read(&StationRows {}, Part::Stations, text)
+}
+
+// The lines of a table's text, between so many stations, or its first fault.
+pub fn read_lines(text: &[u8], stations: usize) -> Result<Table<Line, 128>, Refusal>
+    requires short { ⌜ length (now text) ≤ 65535 ⌝ }
+    requires few { ⌜ stations ≤ 64 ⌝ }
+    ensures verdict { λ r. ⌜ Agrees (lineRules stations) Part.Lines (now (text .entry)) r ⌝ }
+    ensures range { λ r. ⌜ made r (λ t. LinesInRange (listed t) × LinesBetween stations (listed t) × (1 ≤ length (listed t))) ⌝ }
+{
+    read(&LineRows { stations }, Part::Lines, text)
 }
