@@ -1,0 +1,5 @@
+// How a selection is measured: the yardstick, and the two that come with the planner.
+pub mod figures;
+pub mod money;
+pub mod urgent;
+pub mod yardstick;
