@@ -1,0 +1,5 @@
+pub mod Topping
+pub mod Pieces
+pub mod Gluing
+pub mod Cells
+pub mod Numbered

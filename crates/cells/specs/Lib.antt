@@ -1,0 +1,5 @@
+pub mod Tops
+pub mod Inside
+pub mod Whole
+pub mod LineUp
+pub mod Traces
