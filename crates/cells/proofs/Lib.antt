@@ -3,3 +3,8 @@ pub mod Pieces
 pub mod Gluing
 pub mod Cells
 pub mod Numbered
+pub mod Leaves
+pub mod Root
+pub mod Order
+pub mod Writing
+pub mod Tracing
