@@ -8,3 +8,4 @@ pub mod Root
 pub mod Order
 pub mod Writing
 pub mod Tracing
+pub mod Subtrees

@@ -1,4 +1,5 @@
 pub mod Tops
+pub mod Subtrees
 pub mod Inside
 pub mod Whole
 pub mod LineUp
