@@ -9,3 +9,4 @@ pub mod Order
 pub mod Writing
 pub mod Tracing
 pub mod Subtrees
+pub mod Rows

@@ -4,3 +4,5 @@ pub mod Inside
 pub mod Whole
 pub mod LineUp
 pub mod Traces
+pub mod Joins
+pub mod Tables
