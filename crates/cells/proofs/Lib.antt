@@ -1,0 +1,12 @@
+pub mod Topping
+pub mod Pieces
+pub mod Gluing
+pub mod Cells
+pub mod Numbered
+pub mod Leaves
+pub mod Root
+pub mod Order
+pub mod Writing
+pub mod Tracing
+pub mod Subtrees
+pub mod Rows

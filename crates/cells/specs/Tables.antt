@@ -1,0 +1,40 @@
+-- Where the cells lie in memory, and when they are right. Assumes nothing.
+use mathlib.Core.Path.{_≡_}
+use mathlib.Core.Bool.{Bool, true, false, cond}
+use mathlib.Core.List.{List}
+use Prim.Native.Nat.{ℕ, _+_, _-_, _*_, _<_, _≤_}
+use lib.ListN.{length, getD, take, drop}
+use Rattle.std.specs.declared.option.Option.{Option}
+use Rattle.std.specs.declared.option.Option.the-variants.{Some, None}
+use Rattle.plant.specs.Trees.{Tree}
+use Rattle.cells.specs.Tops.{Tops, cell-of}
+use Rattle.cells.specs.Inside.{Site, Scores, Choice}
+use Rattle.cells.specs.Subtrees.{sub}
+use Rattle.cells.specs.Traces.{Cells}
+
+abbrev pub bit : Bool → ℕ
+bit b = cond b 1 0
+
+-- where the row of a node and two states begins, with rows of this width
+abbrev pub row-start : ℕ → ℕ → Bool → Bool → ℕ
+row-start width v l r = (4 * v + 2 * bit l + bit r) * width
+
+abbrev pub place : ℕ → ℕ → Bool → Bool → ℕ → ℕ
+place width v l r h = row-start width v l r + h
+
+abbrev pub memory : {F : Type 0} → ℕ → List (Option F) → Cells F
+memory width cells v l r h = cell-of cells (place width v l r h)
+
+-- how many cells a plant of so many lines needs
+abbrev pub need-of : ℕ → ℕ → ℕ
+need-of m budget = (2 * m - 1) * 4 * (budget + 1)
+
+-- the cells of the nodes below v are the best of their choices
+abbrev pub Done : {F : Type 0} → F → (F → F → F) → (F → F → Bool) → Site → Scores F → Tree → ℕ → List (Option F) → ℕ → Type 0
+Done nil plus above N P t budget cells v =
+    (u : ℕ) → u < v → (l r : Bool) (h : ℕ) → h ≤ budget → Tops above (Choice nil plus N P (sub t u) l r h) (memory (budget + 1) cells u l r h)
+
+-- the rows of the nodes below v are empty past their reach
+abbrev pub Reached : {F : Type 0} → ℕ → List (Option F) → List ℕ → ℕ → Type 0
+Reached budget cells reach v =
+    (u : ℕ) → u < v → (getD reach u 0 ≤ budget) × ((l r : Bool) (h : ℕ) → getD reach u 0 < h → h ≤ budget → memory (budget + 1) cells u l r h ≡ None)

@@ -1,0 +1,2 @@
+pub mod Urgents
+pub mod Sums
