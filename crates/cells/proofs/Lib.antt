@@ -10,3 +10,5 @@ pub mod Writing
 pub mod Tracing
 pub mod Subtrees
 pub mod Rows
+pub mod Filling
+pub mod Counting

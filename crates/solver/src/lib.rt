@@ -1,4 +1,5 @@
 // The solver: cells over the tree of a plant, the pick at its root, and the trace down to the list.
 pub mod cell;
+pub mod fill;
 pub mod joins;
 pub mod share;
