@@ -13,7 +13,7 @@ use Rattle.plant.specs.declared.records.Line.{Line}
 use Rattle.plant.specs.declared.tree.Join.{Join}
 use Rattle.plant.specs.declared.site.Plant.{Plant}
 use Rattle.plant.specs.Nodes.{joined}
-use Rattle.plant.specs.Trees.{Tree, right, Builds}
+use Rattle.plant.specs.Trees.{Tree, leaf, right, Builds}
 use Rattle.yardsticks.specs.Laws.{Laws, limit, record-limit}
 use Rattle.cells.specs.Inside.{Choice, records}
 use Rattle.cells.specs.Joins.{first-right, second-left, passes, between-figure, between-hours, Through}
@@ -22,10 +22,15 @@ use Rattle.cells.specs.Tables.{place, row-start, memory, most}
 use Rattle.cells.specs.Tops.{Tops, Split, Fair, cell-of, better-of}
 use Rattle.cells.proofs.Filling.{past-none, tops-absent, join-tops, join-fair}
 use Rattle.cells.proofs.Rows.{cut-same, split-same}
-use Rattle.cells.proofs.Topping.{order, tops-same, tops-better, held-within}
+use Rattle.cells.proofs.Topping.{order, some-is, tops-none, tops-same, tops-better, held-within}
+use Rattle.cells.proofs.Cells.{leaf-tops}
+use Rattle.cells.specs.Tops.{Order}
+use mathlib.Core.Bool.{cond}
+use Rattle.std.proofs.shelf.Tests.{cond-true, cond-false, eq-eqb, ne-eqb, cases-eq}
+use Rattle.plant.specs.Records.{line}
 use Rattle.solver.specs.declared.share.Share.{Share}
 use Rattle.solver.specs.Shares.{Joined}
-use Rattle.solver.specs.Sites.{site, scores, tree, middle, Ready, Filled, Known, HalvesAt, Passing}
+use Rattle.solver.specs.Sites.{site, scores, tree, middle, Ready, Filled, Known, HalvesAt, Passing, leaf-cell}
 use Rattle.solver.proofs.Standing.{modest, few-sub, sub-stands}
 
 by-state : (A : Bool → Type 0) (m : Bool) → A m → A false ⊎ A true
@@ -96,3 +101,23 @@ module _ {F : Type 0} {f : Station → F} {g : Line → F} {nil : F} {plus : F �
           subst (λ (t : Tree). Tops above (Choice nil plus (site p) (scores f g p) t l r h) (better-of above o o′)) (sym (at .tree-is))
           (join-tops (laws .ops) (site p) (scores f g p) (modest p ready laws) j (sub (tree p) a) (sub (tree p) b) l r h (memory (p .budget + 1) cells a) (memory (p .budget + 1) cells b) (better-of above o o′) halves-stand few-halves
           (λ l r i lt. filled .done a (at .first-below) l r i (omega arith)) (λ l r i lt. filled .done b (at .second-below) l r i (omega arith)) here)
+
+-- ---- leaves
+
+leaf-right : {F : Type 0} (above : F → F → Bool) → Order above → (nil x : F) (l r : Bool) (h : ℕ) → Tops above (λ z. (h ≡ 0) × (z ≡ cond l (cond r x nil) nil)) (leaf-cell nil x l r h)
+leaf-right above laws nil x l r h = ⊎-elim
+    (λ e. let is : leaf-cell nil x l r h ≡ Some (cond l (cond r x nil) nil) = cond-true _ _ _ (eq-eqb h 0 e) in
+    rw is (record { reached = λ m f. (e, sym (some-is _ m f)); covers = λ z c. (cond l (cond r x nil) nil, refl, rw (c .1) (laws .irreflexive _)) }))
+    (λ n. let is : leaf-cell nil x l r h ≡ None = cond-false _ _ _ (ne-eqb h 0 n) in rw is (tops-none _ (λ z c. n (c .0))))
+    (cases-eq h 0)
+
+module _ {F : Type 0} {f : Station → F} {g : Line → F} {nil : F} {plus : F → F → F} {above : F → F → Bool} {sz : F → ℕ} (laws : Laws f g nil plus above sz) (p : Plant) (ready : Ready p) where
+  pub leaf-cells : (v k : ℕ) (l r : Bool) (h : ℕ) (o : Option F) → sub (tree p) v ≡ leaf k → o ≡ leaf-cell nil (g (line (p .lines .now) k)) l r h → Tops above (Choice nil plus (site p) (scores f g p) (sub (tree p) v) l r h) o
+  leaf-cells v k l r h o is e =
+      let stands = subst (Builds (site p .net)) is (sub-stands p ready v) in
+      rw (e, is) (leaf-tops (laws .ops) (site p) (scores f g p) k l r h _ stands (leaf-right above (order (laws .ops)) nil (g (line (p .lines .now) k)) l r h))
+
+  pub past-cells : (v : ℕ) (l r : Bool) (h : ℕ) (reach : ℕ) → reach ≡ min (p .budget) (most (site p) (sub (tree p) v)) → reach < h → h ≤ p .budget → Tops above (Choice nil plus (site p) (scores f g p) (sub (tree p) v) l r h) None
+  past-cells v l r h reach is past le =
+      let over : most (site p) (sub (tree p) v) < h = omega arith in
+      tops-none _ (past-none (laws .ops) (site p) (scores f g p) (modest p ready laws) (sub (tree p) v) l r h over)

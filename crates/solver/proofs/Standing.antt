@@ -22,7 +22,9 @@ use Rattle.plant.specs.Trees.{Net, Tree, leaf, series, parallel, left, right, i
 use Rattle.yardsticks.specs.Laws.{Laws, Ops, limit, record-limit}
 use Rattle.cells.specs.Inside.{Site, Scores, Choice, Modest, records, line-of}
 use Rattle.cells.specs.Subtrees.{sub, leaves}
-use Rattle.cells.specs.Tables.{row-start, need-of}
+use Rattle.cells.specs.Tables.{row-start, need-of, most}
+use Rattle.cells.specs.Joins.{between-hours}
+use Rattle.std.proofs.shelf.Tests.{eq-eqb}
 use Rattle.cells.specs.Traces.{first-of, second-of}
 use Rattle.cells.specs.Whole.{Whole}
 use Rattle.cells.proofs.Counting.{size-leaves, whole-leaves}
@@ -31,7 +33,7 @@ use Rattle.cells.proofs.Leaves.{draws-whole, scores-modest, ends-within, inner-
 use Rattle.cells.proofs.Pieces.{left-on, right-on}
 use Rattle.cells.proofs.Root.{whole-records}
 use Rattle.cells.proofs.Subtrees.{Place, at-leaf, at-join, place, numbered-length, sub-builds, sub-records, sub-lines, sub-once, size-join, size-pos as pos-size}
-use Rattle.solver.specs.Sites.{site, scores, tree, middle, Ready, HalvesAt}
+use Rattle.solver.specs.Sites.{site, scores, tree, middle, Ready, Known, HalvesAt}
 
 module _ (p : Plant) (ready : Ready p) where
   pub whole : Whole (site p) (length (p .stations .now)) (length (p .lines .now)) (tree p)
@@ -125,3 +127,21 @@ module _ (p : Plant) (ready : Ready p) where
 
   pub modest : {F : Type 0} {f : Station → F} {g : Line → F} {nil : F} {plus : F → F → F} {above : F → F → Bool} {sz : F → ℕ} → Laws f g nil plus above sz → Modest sz record-limit (scores f g p)
   modest laws = scores-modest laws (p .stations .now) (p .lines .now) (ready .plant .stations) (ready .plant .lines)
+
+  pub leaf-in : (v k : ℕ) → sub (tree p) v ≡ leaf k → k < length (p .lines .now)
+  leaf-in v k is = sub-lines (length (p .lines .now)) (tree p) v (whole .lines-within) k (subst (λ (t : Tree). line-of t k ≡ true) (sym is) (eq-eqb k k refl))
+
+pub known-less : (p : Plant) (reach : List ℕ) (v : ℕ) → Known p reach (v + 1) → Known p reach v
+known-less p reach v known = record { long = known .long; is = λ u lt. known .is u (omega arith) }
+
+most-join : (N : Site) (j : Join) (a b : Tree) → most N (joined j a b) ≡ most N a + most N b + between-hours N j (right (N .net) a) true
+most-join N Series a b = refl
+most-join N Parallel a b = refl
+
+-- the reach of a join, from those of its halves
+pub reach-join : (p : Plant) (v : ℕ) (j : Join) (a b : ℕ) (x y z r : ℕ) → HalvesAt p v j a b → x ≡ min (p .budget) (most (site p) (sub (tree p) a)) → y ≡ min (p .budget) (most (site p) (sub (tree p) b))
+    → z ≡ between-hours (site p) j (middle p a) true → r ≡ min (p .budget) (x + y + z) → r ≡ min (p .budget) (most (site p) (sub (tree p) v))
+reach-join p v j a b x y z r at ex ey ez er =
+    let e = ap (most (site p)) (at .tree-is) ∙ most-join (site p) j (sub (tree p) a) (sub (tree p) b) in
+    let f = ap (λ (mid : ℕ). between-hours (site p) j mid true) (at .middle-is) in
+    omega arith

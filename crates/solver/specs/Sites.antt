@@ -1,10 +1,12 @@
 -- A plant that is lent, as the tables see it, and what stands while they are filled. Assumes nothing.
 use mathlib.Core.Path.{_≡_}
-use mathlib.Core.Bool.{Bool, true, false}
+use mathlib.Core.Bool.{Bool, true, false, cond}
+use lib.Dec.{eqb}
 use mathlib.Core.List.{List}
 use Prim.Native.Nat.{ℕ, _+_, _*_, _<_, _≤_}
 use lib.ListN.{length, getD}
 use Rattle.std.specs.declared.option.Option.{Option}
+use Rattle.std.specs.declared.option.Option.the-variants.{Some, None}
 use Rattle.plant.specs.declared.records.Station.{Station}
 use Rattle.plant.specs.declared.records.Line.{Line}
 use Rattle.plant.specs.declared.tree.Join.{Join}
@@ -67,3 +69,7 @@ Passing nil plus f g p cells j a b l r h m x =
     (passes (site p) j (middle p a) m ≡ true)
     × Split plus (memory (p .budget + 1) cells a l (first-right j r m)) (memory (p .budget + 1) cells b (second-left j l m) r)
     (between-figure nil (scores f g p) j (middle p a) m) (between-hours (site p) j (middle p a) m) h x
+
+-- the cell of a line with the figure x
+abbrev pub leaf-cell : {F : Type 0} → F → F → Bool → Bool → ℕ → Option F
+leaf-cell nil x l r h = cond (eqb h 0) (Some (cond l (cond r x nil) nil)) None
