@@ -22,18 +22,19 @@ use Rattle.plant.specs.Trees.{Net, Tree, leaf, series, parallel, left, right, i
 use Rattle.yardsticks.specs.Laws.{Laws, Ops, limit, record-limit}
 use Rattle.cells.specs.Inside.{Site, Scores, Choice, Modest, records, line-of}
 use Rattle.cells.specs.Subtrees.{sub, leaves}
-use Rattle.cells.specs.Tables.{row-start, need-of, most}
+use Rattle.cells.specs.Tables.{bit, row-start, need-of, most}
+use Rattle.cells.specs.Tops.{cell-of}
 use Rattle.cells.specs.Joins.{between-hours}
 use Rattle.std.proofs.shelf.Tests.{eq-eqb}
 use Rattle.cells.specs.Traces.{first-of, second-of}
 use Rattle.cells.specs.Whole.{Whole}
 use Rattle.cells.proofs.Counting.{size-leaves, whole-leaves}
-use Rattle.cells.proofs.Filling.{row-within}
+use Rattle.cells.proofs.Filling.{row-within, bit-small, done-kept}
 use Rattle.cells.proofs.Leaves.{draws-whole, scores-modest, ends-within, inner-within}
 use Rattle.cells.proofs.Pieces.{left-on, right-on}
 use Rattle.cells.proofs.Root.{whole-records}
 use Rattle.cells.proofs.Subtrees.{Place, at-leaf, at-join, place, numbered-length, sub-builds, sub-records, sub-lines, sub-once, size-join, size-pos as pos-size}
-use Rattle.solver.specs.Sites.{site, scores, tree, middle, Ready, Known, HalvesAt}
+use Rattle.solver.specs.Sites.{site, scores, tree, middle, Ready, Filled, Known, HalvesAt}
 
 module _ (p : Plant) (ready : Ready p) where
   pub whole : Whole (site p) (length (p .stations .now)) (length (p .lines .now)) (tree p)
@@ -145,3 +146,20 @@ reach-join p v j a b x y z r at ex ey ez er =
     let e = ap (most (site p)) (at .tree-is) ∙ most-join (site p) j (sub (tree p) a) (sub (tree p) b) in
     let f = ap (λ (mid : ℕ). between-hours (site p) j mid true) (at .middle-is) in
     omega arith
+
+-- rows begin at small numbers
+pub row-small : (w v : ℕ) (l r : Bool) → w ≤ 1001 → v < 255 → row-start w v l r ≤ 1020019
+row-small w v l r lw lv =
+    let le : 4 * v + 2 * bit l + bit r ≤ 1019 = omega (arith, bit-small l, bit-small r) in
+    omega (arith, mul-le-mul-right w le)
+
+-- what was filled stays so while later rows are written
+pub filled-kept : {F : Type 0} {nil : F} {plus : F → F → F} {above : F → F → Bool} {f : Station → F} {g : Line → F} (p : Plant) (xs ys : List (Option F)) (v : ℕ) (l r : Bool) → length ys ≡ length xs
+    → ((k : ℕ) → k < row-start (p .budget + 1) v l r → cell-of ys k ≡ cell-of xs k) → Filled nil plus above f g p xs v → Filled nil plus above f g p ys v
+filled-kept {F} {nil} {plus} {above} {f} {g} p xs ys v l r long same filled =
+    let le : 4 * v + 0 + 0 ≤ 4 * v + 2 * bit l + bit r = omega arith in
+    let start : row-start (p .budget + 1) v false false ≤ row-start (p .budget + 1) v l r = mul-le-mul-right (p .budget + 1) le in
+    record {
+      room = omega (arith, filled .room);
+      done = done-kept nil plus above (site p) (scores f g p) (tree p) (p .budget) xs ys v (λ k lt. same k (omega arith)) (filled .done);
+    }

@@ -73,3 +73,14 @@ Passing nil plus f g p cells j a b l r h m x =
 -- the cell of a line with the figure x
 abbrev pub leaf-cell : {F : Type 0} → F → F → Bool → Bool → ℕ → Option F
 leaf-cell nil x l r h = cond (eqb h 0) (Some (cond l (cond r x nil) nil)) None
+
+-- the row of a node and two states is filled, and all else is as it was
+pub record RowFilled {F : Type 0} (nil : F) (plus : F → F → F) (above : F → F → Bool) (f : Station → F) (g : Line → F) (p : Plant) (before after : List (Option F)) (v : ℕ) (l r : Bool) : Type 0 where
+  pub best : (h : ℕ) → h ≤ p .budget → Tops above (Choice nil plus (site p) (scores f g p) (sub (tree p) v) l r h) (memory (p .budget + 1) after v l r h)
+  pub kept-below : (k : ℕ) → k < row-start (p .budget + 1) v l r → cell-of after k ≡ cell-of before k
+  pub kept-past : (k : ℕ) → row-start (p .budget + 1) v l r + (p .budget + 1) ≤ k → cell-of after k ≡ cell-of before k
+
+-- the nodes below v are filled, and past them all is as it was
+pub record NodesFilled {F : Type 0} (nil : F) (plus : F → F → F) (above : F → F → Bool) (f : Station → F) (g : Line → F) (p : Plant) (before after : List (Option F)) (v : ℕ) : Type 0 where
+  pub filled : Filled nil plus above f g p after v
+  pub kept-past : (k : ℕ) → v * 4 * (p .budget + 1) ≤ k → cell-of after k ≡ cell-of before k

@@ -1,7 +1,7 @@
 // A cell, and where it lies.
 ghost use mathlib.Core.Path.{_≡_};
 ghost use Prim.Native.Nat.{ℕ, _+_, _-_, _*_, _<_, _≤_};
-ghost use lib.ListN.{length, getD};
+ghost use lib.ListN.{length, getD, set};
 ghost use Rattle.cells.specs.Tables.{bit, row-start, need-of};
 ghost use Rattle.cells.specs.Tops.{cell-of};
 
@@ -58,4 +58,11 @@ pub fn row_of<F: Copy>(
 {
     let begin = row_begin(width, node, left, right);
     &cells[begin..begin + len]
+}
+
+pub fn put_cell<F: Copy>(cells: &mut [Cell<F>], at: usize, cell: Cell<F>)
+    requires { ⌜ at < length (now cells) ⌝ }
+    ensures { λ _. ⌜ now (cells .exit) ≡ set (now (cells .entry)) at cell ⌝ }
+{
+    cells[at] = cell;
 }

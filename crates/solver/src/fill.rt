@@ -10,12 +10,14 @@ ghost use Rattle.yardsticks.specs.Laws.{limit};
 ghost use Rattle.cells.specs.Inside.{mid-figure, mid-hours, Choice};
 ghost use Rattle.cells.specs.Joins.{first-right, second-left, passes, between-figure, between-hours, Through};
 ghost use Rattle.cells.specs.Subtrees.{sub};
-ghost use Rattle.cells.specs.Tables.{memory, most, row-start, place};
+ghost use Rattle.cells.specs.Tables.{memory, most, row-start, place, need-of};
 ghost use Rattle.cells.specs.Tops.{Tops, Split, cell-of};
-ghost use Rattle.solver.specs.Sites.{site, scores, tree, Ready, Filled, Known, HalvesAt, Passing, middle, leaf-cell};
+ghost use Rattle.solver.specs.Sites.{site, scores, tree, Ready, Filled, Known, HalvesAt, Passing, middle, leaf-cell, RowFilled, NodesFilled};
 
 use crate::cell::Cell;
 use crate::cell::Spot;
+use crate::cell::put_cell;
+use crate::cell::row_begin;
 use crate::cell::row_of;
 use crate::joins::best_split;
 use crate::joins::better;
@@ -232,5 +234,68 @@ fn reach_of(plant: &Plant<'_>, reach: &[usize], node: usize) -> usize
             };
             join_reach(plant, reach, halves, node)
         }
+    }
+}
+
+// Fills the row of a node and two states of its ends.
+fn fill_row<Y: Yardstick>(
+    plant: &Plant<'_>,
+    y: &Y,
+    cells: &mut [Cell<Y::Figure>],
+    reach: &[usize],
+    node: usize,
+    left: bool,
+    right: bool,
+)
+    requires ready { ⌜ Ready (now plant) ⌝ }
+    requires within { ⌜ node < length (now (now plant .nodes)) ⌝ }
+    requires filled { ⌜ Filled (Y·Yardstick .nil) (Y·Yardstick .plus) (Y·Yardstick .above) (Y·Yardstick .station) (Y·Yardstick .line) (now plant) (now cells) node ⌝ }
+    requires known { ⌜ Known (now plant) (now reach) (node + 1) ⌝ }
+    ensures { λ _. ⌜ RowFilled (Y·Yardstick .nil) (Y·Yardstick .plus) (Y·Yardstick .above) (Y·Yardstick .station) (Y·Yardstick .line) (now (plant .entry)) (now (cells .entry)) (now (cells .exit)) node left right ⌝ }
+{
+    let width = plant.budget as usize + 1;
+    let begin = row_begin(width, node, left, right);
+    for hours in 0..width {
+        let spot = Spot {
+            node,
+            left,
+            right,
+            hours,
+        };
+        let cell = cell_at(plant, y, cells, reach, spot);
+        put_cell(cells, begin + hours, cell);
+    }
+}
+
+// Fills the four rows of a node.
+fn fill_node<Y: Yardstick>(
+    plant: &Plant<'_>,
+    y: &Y,
+    cells: &mut [Cell<Y::Figure>],
+    reach: &[usize],
+    node: usize,
+)
+    requires ready { ⌜ Ready (now plant) ⌝ }
+    requires within { ⌜ node < length (now (now plant .nodes)) ⌝ }
+    requires filled { ⌜ Filled (Y·Yardstick .nil) (Y·Yardstick .plus) (Y·Yardstick .above) (Y·Yardstick .station) (Y·Yardstick .line) (now plant) (now cells) node ⌝ }
+    requires known { ⌜ Known (now plant) (now reach) (node + 1) ⌝ }
+    ensures { λ _. ⌜ NodesFilled (Y·Yardstick .nil) (Y·Yardstick .plus) (Y·Yardstick .above) (Y·Yardstick .station) (Y·Yardstick .line) (now (plant .entry)) (now (cells .entry)) (now (cells .exit)) (node + 1) ⌝ }
+{
+    fill_row(plant, y, cells, reach, node, false, false);
+    fill_row(plant, y, cells, reach, node, false, true);
+    fill_row(plant, y, cells, reach, node, true, false);
+    fill_row(plant, y, cells, reach, node, true, true);
+}
+
+// Fills the rows of all nodes; halves have smaller numbers than their join.
+pub fn fill<Y: Yardstick>(plant: &Plant<'_>, y: &Y, cells: &mut [Cell<Y::Figure>])
+    requires ready { ⌜ Ready (now plant) ⌝ }
+    requires room { ⌜ need-of (length (now (now plant .lines))) (now plant .budget) ≤ length (now cells) ⌝ }
+    ensures { λ _. ⌜ NodesFilled (Y·Yardstick .nil) (Y·Yardstick .plus) (Y·Yardstick .above) (Y·Yardstick .station) (Y·Yardstick .line) (now (plant .entry)) (now (cells .entry)) (now (cells .exit)) (length (now (now (plant .entry) .nodes))) ⌝ }
+{
+    let mut reach = [0; 255];
+    for node in 0..plant.nodes.len() {
+        reach[node] = reach_of(plant, &reach, node);
+        fill_node(plant, y, cells, &reach, node);
     }
 }
