@@ -1,3 +1,5 @@
 pub mod Standing
 pub mod Passes
 pub mod Nodes
+pub mod Offers
+pub mod Rooting

@@ -33,7 +33,7 @@ use Rattle.cells.proofs.Filling.{row-within, bit-small, done-kept}
 use Rattle.cells.proofs.Leaves.{draws-whole, scores-modest, ends-within, inner-within}
 use Rattle.cells.proofs.Pieces.{left-on, right-on}
 use Rattle.cells.proofs.Root.{whole-records}
-use Rattle.cells.proofs.Subtrees.{Place, at-leaf, at-join, place, numbered-length, sub-builds, sub-records, sub-lines, sub-once, size-join, size-pos as pos-size}
+use Rattle.cells.proofs.Subtrees.{Place, at-leaf, at-join, place, numbered-length, sub-builds, sub-records, sub-lines, sub-once, sub-last, size-join, size-pos as pos-size}
 use Rattle.solver.specs.Sites.{site, scores, tree, middle, Ready, Filled, Known, HalvesAt}
 
 module _ (p : Plant) (ready : Ready p) where
@@ -115,6 +115,21 @@ module _ (p : Plant) (ready : Ready p) where
 
   pub join-at : (v : ℕ) (j : Join) (a b : ℕ) → v < length (p .nodes .now) → getD (p .nodes .now) v no-node .shape ≡ S.Join j a b → HalvesAt p v j a b
   join-at v j a b lt is = join-here v j a b lt (place (site p .net) 0 (tree p) v (omega (arith, node-count))) is
+
+  -- ---- the root
+  pub some-nodes : 0 < length (p .nodes .now)
+  some-nodes = omega (arith, node-count, pos-size (tree p))
+
+  pub root-tree : sub (tree p) (length (p .nodes .now) - 1) ≡ tree p
+  root-tree = let e : length (p .nodes .now) - 1 ≡ size (tree p) - 1 = omega (arith, node-count) in ap (sub (tree p)) e ∙ sub-last (tree p)
+
+  pub root-ends : (getD (p .nodes .now) (length (p .nodes .now) - 1) no-node .left ≡ left (site p .net) (tree p)) × (getD (p .nodes .now) (length (p .nodes .now) - 1) no-node .right ≡ right (site p .net) (tree p))
+  root-ends =
+      let e = node-ends (length (p .nodes .now) - 1) (omega (arith, some-nodes)) in
+      (e .0 ∙ ap (left (site p .net)) root-tree, e .1 ∙ ap (right (site p .net)) root-tree)
+
+  pub root-in : (left (site p .net) (tree p) < length (p .stations .now)) × (right (site p .net) (tree p) < length (p .stations .now))
+  root-in = (whole .stations-within _ (left-on (site p .net) (tree p)), whole .stations-within _ (right-on (site p .net) (tree p)))
 
   -- ---- sizes
   pub few-records : records (tree p) * record-limit ≤ limit

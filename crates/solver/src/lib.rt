@@ -2,4 +2,6 @@
 pub mod cell;
 pub mod fill;
 pub mod joins;
+pub mod offer;
+pub mod root;
 pub mod share;
