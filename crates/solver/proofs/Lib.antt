@@ -3,3 +3,4 @@ pub mod Passes
 pub mod Nodes
 pub mod Offers
 pub mod Rooting
+pub mod Splitting

@@ -1,3 +1,4 @@
 pub mod Shares
 pub mod Sites
 pub mod Offers
+pub mod Splits

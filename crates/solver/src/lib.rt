@@ -5,3 +5,5 @@ pub mod joins;
 pub mod offer;
 pub mod root;
 pub mod share;
+pub mod split;
+pub mod trace;

@@ -1,0 +1,106 @@
+// The trace: from the root's cell down, which stations are open.
+ghost use mathlib.Core.Path.{_≡_};
+ghost use mathlib.Core.Bool.{true, false, cond};
+ghost use Prim.Native.Nat.{ℕ, _+_, _-_, _*_, _^_, _<_, _≤_};
+ghost use lib.ListN.{length, getD};
+ghost use Rattle.std.specs.Options.{Cases as BySome};
+ghost use Rattle.std.specs.Orderings.{Decides};
+ghost use Rattle.std.specs.declared.option.Option.the-variants.{Some, None};
+ghost use Rattle.yardsticks.specs.Laws.{limit};
+ghost use Rattle.cells.specs.Tops.{cell-of, joined-of};
+ghost use Rattle.solver.specs.Sites.{site, scores, tree, Ready, Filled, HalvesAt};
+ghost use Rattle.solver.specs.Splits.{ways as waysBy, FirstSplit, NoSplit};
+
+use crate::cell::Cell;
+use crate::cell::Spot;
+use crate::cell::row_of;
+use crate::fill::Halves;
+use crate::fill::between;
+use crate::fill::first_right;
+use crate::fill::second_left;
+use crate::joins::joined;
+use crate::share::Share;
+use crate::split::Split;
+use plant::site::Plant;
+use yardsticks::yardstick::Yardstick;
+
+// Whether the two figures are one.
+fn same<Y: Yardstick>(y: &Y, a: Y::Figure, b: Y::Figure) -> bool
+    ensures { λ r. ⌜ Decides r (a ≡ b) ⌝ }
+{
+    if y.is_above(a, b) {
+        false
+    } else {
+        !y.is_above(b, a)
+    }
+}
+
+// Whether the two cells and the figure between them add up to `goal`.
+fn attains<Y: Yardstick>(
+    y: &Y,
+    a: Cell<Y::Figure>,
+    b: Cell<Y::Figure>,
+    between: Y::Figure,
+    goal: Y::Figure,
+) -> bool
+    requires { ⌜ ((p q : Y·Figure) → a ≡ Some p → b ≡ Some q → Y·Yardstick .size p + Y·Yardstick .size q + Y·Yardstick .size between ≤ limit) ⌝ }
+    ensures { λ r. ⌜ Decides r (joined-of (Y·Yardstick .plus) between a b ≡ Some goal) ⌝ }
+{
+    match joined(y, a, b, between) {
+        Some(sum) => same(y, sum, goal),
+        None => false,
+    }
+}
+
+// How many splits of the total there are through a share.
+fn ways<F: Copy>(share: &Share<F>, total: usize) -> usize
+    requires { ⌜ total < 2 ^ 32 ⌝ }
+    ensures { λ r. ⌜ r ≡ waysBy (now (share .entry)) total ⌝ }
+{
+    if share.allowed && share.hours <= total {
+        total - share.hours + 1
+    } else {
+        0
+    }
+}
+
+// The first split that attains the goal: by the state of the middle, then by the hours of the first half.
+fn first_split<Y: Yardstick>(
+    plant: &Plant<'_>,
+    y: &Y,
+    cells: &[Cell<Y::Figure>],
+    halves: Halves,
+    spot: Spot,
+    goal: Y::Figure,
+) -> Option<Split>
+    requires ready { ⌜ Ready (now plant) ⌝ }
+    requires joins { ⌜ HalvesAt (now plant) (spot .node) (halves .join) (halves .first) (halves .second) ⌝ }
+    requires filled { ⌜ Filled (Y·Yardstick .nil) (Y·Yardstick .plus) (Y·Yardstick .above) (Y·Yardstick .station) (Y·Yardstick .line) (now plant) (now cells) (spot .node) ⌝ }
+    requires hours { ⌜ spot .hours ≤ now plant .budget ⌝ }
+    ensures { λ r. ⌜ BySome r (NoSplit (Y·Yardstick .nil) (Y·Yardstick .plus) (Y·Yardstick .station) (Y·Yardstick .line) (now (plant .entry)) (now (cells .entry)) (halves .join) (halves .first) (halves .second) (spot .left) (spot .right) (spot .hours) goal) (FirstSplit (Y·Yardstick .nil) (Y·Yardstick .plus) (Y·Yardstick .station) (Y·Yardstick .line) (now (plant .entry)) (now (cells .entry)) (halves .join) (halves .first) (halves .second) (spot .left) (spot .right) (spot .hours) goal) ⌝ }
+{
+    let width = plant.budget as usize + 1;
+    let middle = plant.nodes[halves.first].right;
+    let mut found = None;
+    'states: for m in 0..2usize {
+        let opened = m == 1;
+        let meets = first_right(halves.join, spot.right, opened);
+        let begins = second_left(halves.join, spot.left, opened);
+        let first = row_of(cells, width, halves.first, spot.left, meets, width);
+        let second = row_of(cells, width, halves.second, begins, spot.right, width);
+        let share = between(plant, y, halves.join, middle, opened);
+        let figure = share.figure;
+        let count = ways(&share, spot.hours);
+        'hours: for i in 0..count {
+            if attains(y, first[i], second[count - 1 - i], figure, goal) {
+                found = Some(Split {
+                    opened,
+                    first: i,
+                    second: count - 1 - i,
+                });
+                break 'states;
+            }
+        }
+    }
+    found
+}
