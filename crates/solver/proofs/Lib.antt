@@ -4,3 +4,5 @@ pub mod Nodes
 pub mod Offers
 pub mod Rooting
 pub mod Splitting
+pub mod Pendings
+pub mod Steps

@@ -2,3 +2,4 @@ pub mod Shares
 pub mod Sites
 pub mod Offers
 pub mod Splits
+pub mod Pending

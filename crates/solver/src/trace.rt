@@ -8,7 +8,9 @@ ghost use Rattle.std.specs.Orderings.{Decides};
 ghost use Rattle.std.specs.declared.option.Option.the-variants.{Some, None};
 ghost use Rattle.yardsticks.specs.Laws.{limit};
 ghost use Rattle.cells.specs.Tops.{cell-of, joined-of};
-ghost use Rattle.solver.specs.Sites.{site, scores, tree, Ready, Filled, HalvesAt};
+ghost use Rattle.plant.specs.Selections.{Wide, among};
+ghost use Rattle.solver.specs.Pending.{settled, first-spot, second-spot, Pending, load, size-at};
+ghost use Rattle.solver.specs.Sites.{site, scores, tree, middle as middleOf, Ready, Filled, HalvesAt};
 ghost use Rattle.solver.specs.Splits.{ways as waysBy, FirstSplit, NoSplit};
 
 use crate::cell::Cell;
@@ -21,7 +23,9 @@ use crate::fill::second_left;
 use crate::joins::joined;
 use crate::share::Share;
 use crate::split::Split;
+use plant::selection::Selection;
 use plant::site::Plant;
+use plant::tree::Join;
 use yardsticks::yardstick::Yardstick;
 
 // Whether the two figures are one.
@@ -103,4 +107,42 @@ fn first_split<Y: Yardstick>(
         }
     }
     found
+}
+
+// Writes the state of the middle, where the join has one.
+fn settle(plant: &Plant<'_>, halves: Halves, opened: bool, picked: &mut Selection)
+    requires wide { ⌜ Wide (now picked) ⌝ }
+    requires first { ⌜ halves .first < length (now (now plant .nodes)) ⌝ }
+    requires within { ⌜ middleOf (now plant) (halves .first) < 64 ⌝ }
+    ensures { λ _. ⌜ now (picked .exit) .open ≡ settled (halves .join) (middleOf (now (plant .entry)) (halves .first)) opened (now (picked .entry) .open) ⌝ }
+{
+    match halves.join {
+        Join::Series => {
+            let middle = plant.nodes[halves.first].right;
+            picked.open[middle] = opened;
+        }
+        Join::Parallel => {}
+    }
+}
+
+fn first_spot(halves: Halves, spot: Spot, split: Split) -> Spot
+    ensures { λ r. ⌜ r ≡ first-spot (halves .join) (halves .first) spot split ⌝ }
+{
+    Spot {
+        node: halves.first,
+        left: spot.left,
+        right: first_right(halves.join, spot.right, split.opened),
+        hours: split.first,
+    }
+}
+
+fn second_spot(halves: Halves, spot: Spot, split: Split) -> Spot
+    ensures { λ r. ⌜ r ≡ second-spot (halves .join) (halves .second) spot split ⌝ }
+{
+    Spot {
+        node: halves.second,
+        left: second_left(halves.join, spot.left, split.opened),
+        right: spot.right,
+        hours: split.second,
+    }
 }
