@@ -6,3 +6,4 @@ pub mod Rooting
 pub mod Splitting
 pub mod Pendings
 pub mod Steps
+pub mod Solving

@@ -50,9 +50,12 @@ pub size-halves : (j : Join) (A B : Tree) → size (joined j A B) ≡ size A + s
 size-halves Series A B = refl
 size-halves Parallel A B = refl
 
-leaves-halves : (j : Join) (A B : Tree) → leaves (joined j A B) ≡ leaves A + leaves B
+pub leaves-halves : (j : Join) (A B : Tree) → leaves (joined j A B) ≡ leaves A + leaves B
 leaves-halves Series A B = refl
 leaves-halves Parallel A B = refl
+
+pub size-leaf : (p : Plant) (x : Spot) (k : ℕ) → tree-at p x ≡ leaf k → size-at p x ≡ 1
+size-leaf p x k is = ap size is
 
 module _ (N : Site) (A B : Tree) where
   inner-first : (j : Join) (i : ℕ) → inner (N .net) A i ≡ true → inner (N .net) (joined j A B) i ≡ true

@@ -22,6 +22,7 @@ use Rattle.cells.specs.Traces.{Traces}
 use Rattle.solver.specs.declared.cell.Spot.{Spot}
 use Rattle.solver.specs.declared.split.Split.{Split}
 use Rattle.solver.specs.Sites.{site, scores, tree}
+use Rattle.solver.specs.Splits.{FirstSplit}
 
 -- the states after a join is settled: a series has a middle, a parallel join has none
 abbrev pub settled : Join → ℕ → Bool → List Bool → List Bool
@@ -82,3 +83,12 @@ pub record Pending {F : Type 0} (nil : F) (plus : F → F → F) (f : Station �
   pub complete : (S : Selection) → ((e : Spot) → In e stack → Traced nil plus f g p cells e S)
       → ((i : ℕ) → ((e : Spot) → In e stack → inner (site p .net) (tree-at p e) i ≡ false) → S i ≡ getD marks i false) → Traced nil plus f g p cells top S
   pub light : load (leaves-at p) stack ≤ 128
+
+-- the cell holds something
+abbrev pub Holds : {F : Type 0} → Plant → List (Option F) → Spot → Type 0
+Holds {F} p cells e = (goal : F) × (memory (p .budget + 1) cells (e .node) (e .left) (e .right) (e .hours) ≡ Some goal)
+
+-- the split is the first that attains what the cell holds
+abbrev pub SplitOf : {F : Type 0} → F → (F → F → F) → (Station → F) → (Line → F) → Plant → List (Option F) → Join → ℕ → ℕ → Spot → Split → Type 0
+SplitOf {F} nil plus f g p cells j a b e s =
+    (goal : F) × (memory (p .budget + 1) cells (e .node) (e .left) (e .right) (e .hours) ≡ Some goal) × FirstSplit nil plus f g p cells j a b (e .left) (e .right) (e .hours) goal s

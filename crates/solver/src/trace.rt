@@ -3,13 +3,15 @@ ghost use mathlib.Core.Path.{_≡_};
 ghost use mathlib.Core.Bool.{true, false, cond};
 ghost use Prim.Native.Nat.{ℕ, _+_, _-_, _*_, _^_, _<_, _≤_};
 ghost use lib.ListN.{length, getD};
+ghost use mathlib.Core.List.{[], _∷_, _++_};
+ghost use Rattle.plant.specs.Held.{held, room, Whole};
 ghost use Rattle.std.specs.Options.{Cases as BySome};
 ghost use Rattle.std.specs.Orderings.{Decides};
 ghost use Rattle.std.specs.declared.option.Option.the-variants.{Some, None};
 ghost use Rattle.yardsticks.specs.Laws.{limit};
 ghost use Rattle.cells.specs.Tops.{cell-of, joined-of};
 ghost use Rattle.plant.specs.Selections.{Wide, among};
-ghost use Rattle.solver.specs.Pending.{settled, first-spot, second-spot, Pending, load, size-at};
+ghost use Rattle.solver.specs.Pending.{settled, first-spot, second-spot, Pending, load, size-at, Holds, SplitOf};
 ghost use Rattle.solver.specs.Sites.{site, scores, tree, middle as middleOf, Ready, Filled, HalvesAt};
 ghost use Rattle.solver.specs.Splits.{ways as waysBy, FirstSplit, NoSplit};
 
@@ -20,12 +22,15 @@ use crate::fill::Halves;
 use crate::fill::between;
 use crate::fill::first_right;
 use crate::fill::second_left;
+use crate::fill::shape_at;
 use crate::joins::joined;
 use crate::share::Share;
 use crate::split::Split;
 use plant::selection::Selection;
 use plant::site::Plant;
+use plant::stack::Stack;
 use plant::tree::Join;
+use plant::tree::Shape;
 use yardsticks::yardstick::Yardstick;
 
 // Whether the two figures are one.
@@ -144,5 +149,76 @@ fn second_spot(halves: Halves, spot: Spot, split: Split) -> Spot
         left: second_left(halves.join, spot.left, split.opened),
         right: spot.right,
         hours: split.second,
+    }
+}
+
+// The first split that attains the cell, which holds something.
+fn split_at<Y: Yardstick>(
+    plant: &Plant<'_>,
+    y: &Y,
+    cells: &[Cell<Y::Figure>],
+    halves: Halves,
+    spot: Spot,
+) -> Split
+    requires ready { ⌜ Ready (now plant) ⌝ }
+    requires joins { ⌜ HalvesAt (now plant) (spot .node) (halves .join) (halves .first) (halves .second) ⌝ }
+    requires filled { ⌜ Filled (Y·Yardstick .nil) (Y·Yardstick .plus) (Y·Yardstick .above) (Y·Yardstick .station) (Y·Yardstick .line) (now plant) (now cells) (length (now (now plant .nodes))) ⌝ }
+    requires hours { ⌜ spot .hours ≤ now plant .budget ⌝ }
+    requires holds { ⌜ Holds (now plant) (now cells) spot ⌝ }
+    ensures { λ r. ⌜ SplitOf (Y·Yardstick .nil) (Y·Yardstick .plus) (Y·Yardstick .station) (Y·Yardstick .line) (now (plant .entry)) (now (cells .entry)) (halves .join) (halves .first) (halves .second) spot r ⌝ }
+{
+    let width = plant.budget as usize + 1;
+    let row = row_of(cells, width, spot.node, spot.left, spot.right, width);
+    let cell = row[spot.hours];
+    match cell {
+        Some(goal) => match first_split(plant, y, cells, halves, spot, goal) {
+            Some(split) => split,
+            None => unreachable(),
+        },
+        None => unreachable(),
+    }
+}
+
+// One cell more to be traced; there is always room.
+fn put_off(stack: &mut Stack<'_, Spot>, spot: Spot)
+    requires whole { ⌜ Whole (now stack) ⌝ }
+    requires room { ⌜ length (held (now stack)) < room (now stack) ⌝ }
+    ensures held { λ _. ⌜ held (now (stack .exit)) ≡ held (now (stack .entry)) ++ spot ∷ [] ⌝ }
+    ensures whole { λ _. ⌜ Whole (now (stack .exit)) ⌝ }
+    ensures room { λ _. ⌜ room (now (stack .exit)) ≡ room (now (stack .entry)) ⌝ }
+{
+    stack.push(spot);
+}
+
+// Traces the cells on the stack until none is left; each has a leaf of its own, so 128 entries suffice.
+fn trace_all<Y: Yardstick>(
+    plant: &Plant<'_>,
+    y: &Y,
+    cells: &[Cell<Y::Figure>],
+    root: Spot,
+    stack: &mut Stack<'_, Spot>,
+    picked: &mut Selection,
+)
+    requires ready { ⌜ Ready (now plant) ⌝ }
+    requires filled { ⌜ Filled (Y·Yardstick .nil) (Y·Yardstick .plus) (Y·Yardstick .above) (Y·Yardstick .station) (Y·Yardstick .line) (now plant) (now cells) (length (now (now plant .nodes))) ⌝ }
+    requires empty { ⌜ held (now stack) ≡ [] ⌝ }
+    requires whole { ⌜ Whole (now stack) ⌝ }
+    requires room { ⌜ room (now stack) ≡ 128 ⌝ }
+    requires pending { ⌜ Pending (Y·Yardstick .nil) (Y·Yardstick .plus) (Y·Yardstick .station) (Y·Yardstick .line) (now plant) (now cells) root (root ∷ []) (now picked .open) ⌝ }
+    ensures { λ _. ⌜ Pending (Y·Yardstick .nil) (Y·Yardstick .plus) (Y·Yardstick .station) (Y·Yardstick .line) (now (plant .entry)) (now (cells .entry)) root [] (now (picked .exit) .open) ⌝ }
+{
+    put_off(stack, root);
+    while let Some(spot) = stack.pop() {
+        if let Shape::Join(join, first, second) = shape_at(plant, spot.node) {
+            let halves = Halves {
+                join,
+                first,
+                second,
+            };
+            let split = split_at(plant, y, cells, halves, spot);
+            settle(plant, halves, split.opened, picked);
+            put_off(stack, second_spot(halves, spot, split));
+            put_off(stack, first_spot(halves, spot, split));
+        }
     }
 }
