@@ -12,3 +12,5 @@ pub mod Subtrees
 pub mod Rows
 pub mod Filling
 pub mod Counting
+pub mod Answering
+pub mod Numbers

@@ -26,12 +26,12 @@ module _ {F : Type 0} {above : F → F → Bool} (plus : F → F → F) (first s
   pub split-end : (i : ℕ) (r : Option F) → i ≤ rest + 1 → (length first ≤ i) ⊎ (rest < i) → Tops above (Below (λ k x. joined-of plus mid (cell-of first k) (cell-of second (rest - k)) ≡ Some x) i) r → Tops above (Split plus (cell-of first) (cell-of second) mid 0 rest) r
   split-end i r within late = tops-same
       (λ x b.
-          let j = joined-parts plus mid (cell-of first (b .0)) (cell-of second (rest - b .0)) x (b .2) in
-          (b .0, rest - b .0, j .0, j .1, omega (arith, b .1), j .2, j .3, j .4))
+      let j = joined-parts plus mid (cell-of first (b .0)) (cell-of second (rest - b .0)) x (b .2) in
+      (b .0, rest - b .0, j .0, j .1, omega (arith, b .1), j .2, j .3, j .4))
       (λ x s.
-          let e : rest - s .0 ≡ s .1 = omega (arith, s .4) in
-          let lt = held-within first (s .0) (s .2) (s .5) in
-          (s .0, ⊎-elim (λ le. omega arith) (λ le. omega (arith, s .4)) late, rw (e, s .5, s .6, s .7)))
+      let e : rest - s .0 ≡ s .1 = omega (arith, s .4) in
+      let lt = held-within first (s .0) (s .2) (s .5) in
+      (s .0, ⊎-elim (λ le. omega arith) (λ le. omega (arith, s .4)) late, rw (e, s .5, s .6, s .7)))
 
 -- ---- a part of the memory
 

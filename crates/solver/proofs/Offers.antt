@@ -35,7 +35,12 @@ same-ends p q e f = rw (e, f) (inr (refl, inr refl))
 moved : {F : Type 0} (plus : F → F → F) (L R : Share F) (budget v : ℕ) (l r : Bool) (row row′ : ℕ → Option F) (h : ℕ) (o : Offer F) → ((k : ℕ) → k ≤ budget → row k ≡ row′ k)
     → Offered plus row L R budget v l r h o → Offered plus row′ L R budget v l r h o
 moved plus L R budget v l r row row′ h o same c = record {
-  spot-is = c .spot-is; keeps-left = c .keeps-left; keeps-right = c .keeps-right; total = c .total; within = c .within; cell = c .cell;
+  spot-is = c .spot-is;
+  keeps-left = c .keeps-left;
+  keeps-right = c .keeps-right;
+  total = c .total;
+  within = c .within;
+  cell = c .cell;
   holds = sym (same h (omega (arith, c .total, c .within))) ∙ c .holds;
   makes = c .makes;
 }

@@ -94,9 +94,9 @@ module _ {F : Type 0} {f : Station → F} {g : Line → F} {nil : F} {plus : F �
           → Tops above (Choice nil plus (site p) (scores f g p) (sub (tree p) v) l r h) (better-of above o o′)
       both-tops o o′ t t′ =
           let all : Tops above (Through nil plus (site p) (scores f g p) j (middle p a) (memory (p .budget + 1) cells a) (memory (p .budget + 1) cells b) l r h) (better-of above o o′) = tops-same
-              (λ x. ⊎-elim (λ s. (false, s .0, s .1)) (λ s. (true, s .0, s .1)))
-              (λ x s. by-state (λ m. Passing nil plus f g p cells j a b l r h m x) (s .0) (s .1, s .2))
-              (tops-better (order (laws .ops)) o o′ t t′) in
+          (λ x. ⊎-elim (λ s. (false, s .0, s .1)) (λ s. (true, s .0, s .1)))
+          (λ x s. by-state (λ m. Passing nil plus f g p cells j a b l r h m x) (s .0) (s .1, s .2))
+          (tops-better (order (laws .ops)) o o′ t t′) in
           let here = subst (λ (mid : ℕ). Tops above (Through nil plus (site p) (scores f g p) j mid (memory (p .budget + 1) cells a) (memory (p .budget + 1) cells b) l r h) (better-of above o o′)) (at .middle-is) all in
           subst (λ (t : Tree). Tops above (Choice nil plus (site p) (scores f g p) t l r h) (better-of above o o′)) (sym (at .tree-is))
           (join-tops (laws .ops) (site p) (scores f g p) (modest p ready laws) j (sub (tree p) a) (sub (tree p) b) l r h (memory (p .budget + 1) cells a) (memory (p .budget + 1) cells b) (better-of above o o′) halves-stand few-halves

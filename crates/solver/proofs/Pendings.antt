@@ -116,7 +116,7 @@ module _ {F : Type 0} (nil : F) (plus : F → F → F) (f : Station → F) (g : 
         each = λ e i. ⊎-elim
             (λ i2. ⊎-elim
             (λ i-xs. entry-kept marks marks′ e
-                (kept _ (old-clear e i-xs _ (left-on (site p .net) (tree-at p e)))) (kept _ (old-clear e i-xs _ (right-on (site p .net) (tree-at p e)))) (old .each e (in-old e x xs i-xs)))
+            (kept _ (old-clear e i-xs _ (left-on (site p .net) (tree-at p e)))) (kept _ (old-clear e i-xs _ (right-on (site p .net) (tree-at p e)))) (old .each e (in-old e x xs i-xs)))
             (λ is. subst (Entry p cells marks′) (sym is) entry-two)
             (in-cases e two xs i2))
             (λ is. subst (Entry p cells marks′) (sym is) entry-one)
@@ -124,29 +124,29 @@ module _ {F : Type 0} (nil : F) (plus : F → F → F) (f : Station → F) (g : 
         apart = apart-more p (xs ++ two ∷ []) one
             (apart-more p xs two rest (λ e i. ((λ k on inn. from-x e i .0 k on (in-two k inn)), (λ k on inn. from-x e i .1 k (on-two k on) inn))))
             (λ e i. ⊎-elim
-                (λ i-xs. ((λ k on inn. from-x e i-xs .0 k on (in-one k inn)), (λ k on inn. from-x e i-xs .1 k (on-one k on) inn)))
-                (λ is. subst (λ (e : Spot). Clear p e one × Clear p one e) (sym is) (clear21, clear12))
-                (in-cases e two xs i));
+            (λ i-xs. ((λ k on inn. from-x e i-xs .0 k on (in-one k inn)), (λ k on inn. from-x e i-xs .1 k (on-one k on) inn)))
+            (λ is. subst (λ (e : Spot). Clear p e one × Clear p one e) (sym is) (clear21, clear12))
+            (in-cases e two xs i));
         complete = λ S traces agrees.
             let t1 = traces one (in-new one (xs ++ two ∷ [])) in
             let t2 = traces two (in-old two one (xs ++ two ∷ []) (in-new two xs)) in
             let agree-x : (i : ℕ) → On x i ≡ true → Inner one i ≡ false → Inner two i ≡ false → S i ≡ getD marks′ i false = λ i on n1 n2. agrees i (λ e ie. ⊎-elim
-                (λ i2. ⊎-elim (λ i-xs. not-so (Inner e i) (from-x e i-xs .1 i on)) (λ is. subst (λ (e : Spot). Inner e i ≡ false) (sym is) n2) (in-cases e two xs i2))
-                (λ is. subst (λ (e : Spot). Inner e i ≡ false) (sym is) n1)
-                (in-cases e one (xs ++ two ∷ []) ie)) in
+            (λ i2. ⊎-elim (λ i-xs. not-so (Inner e i) (from-x e i-xs .1 i on)) (λ is. subst (λ (e : Spot). Inner e i ≡ false) (sym is) n2) (in-cases e two xs i2))
+            (λ is. subst (λ (e : Spot). Inner e i ≡ false) (sym is) n1)
+            (in-cases e one (xs ++ two ∷ []) ie)) in
             old .complete S
             (λ e ie. ⊎-elim
-                (λ i-xs. traces e (in-old e one (xs ++ two ∷ []) (in-old e two xs i-xs)))
-                (λ is. subst (λ (e : Spot). Traced nil plus f g p cells e S) (sym is) (traced S t1 t2 agree-x))
-                (in-cases e x xs ie))
+            (λ i-xs. traces e (in-old e one (xs ++ two ∷ []) (in-old e two xs i-xs)))
+            (λ is. subst (λ (e : Spot). Traced nil plus f g p cells e S) (sym is) (traced S t1 t2 agree-x))
+            (in-cases e x xs ie))
             (λ i outside.
-                let nx = outside x (in-new x xs) in
-                let n1 = not-both (Inner one i) (Inner x i) (in-one i) nx in
-                let n2 = not-both (Inner two i) (Inner x i) (in-two i) nx in
-                agrees i (λ e ie. ⊎-elim
-                (λ i2. ⊎-elim (λ i-xs. outside e (in-old e x xs i-xs)) (λ is. subst (λ (e : Spot). Inner e i ≡ false) (sym is) n2) (in-cases e two xs i2))
-                (λ is. subst (λ (e : Spot). Inner e i ≡ false) (sym is) n1)
-                (in-cases e one (xs ++ two ∷ []) ie)) ∙ kept i nx);
+            let nx = outside x (in-new x xs) in
+            let n1 = not-both (Inner one i) (Inner x i) (in-one i) nx in
+            let n2 = not-both (Inner two i) (Inner x i) (in-two i) nx in
+            agrees i (λ e ie. ⊎-elim
+            (λ i2. ⊎-elim (λ i-xs. outside e (in-old e x xs i-xs)) (λ is. subst (λ (e : Spot). Inner e i ≡ false) (sym is) n2) (in-cases e two xs i2))
+            (λ is. subst (λ (e : Spot). Inner e i ≡ false) (sym is) n1)
+            (in-cases e one (xs ++ two ∷ []) ie)) ∙ kept i nx);
         light = omega (arith, old .light, load-more (leaves-at p) xs x, load-more (leaves-at p) xs two, load-more (leaves-at p) (xs ++ two ∷ []) one);
       }
 
@@ -167,10 +167,23 @@ module _ {F : Type 0} (nil : F) (plus : F → F → F) (f : Station → F) (g : 
             let rk : S (site p .net .to k) ≡ x .right = subst (λ (t : Tree). S (right (site p .net) t) ≡ x .right) is r in
             old .complete S
             (λ e ie. ⊎-elim
-                (λ i-xs. traces e i-xs)
-                (λ same. subst (λ (e : Spot). Traced nil plus f g p cells e S) (sym same)
-                (subst (λ (t : Tree). Traces nil plus (site p) (scores f g p) (memory (p .budget + 1) cells) (x .node) t (x .left) (x .right) (x .hours) S) (sym is) (lk, rk, none)))
-                (in-cases e x xs ie))
+            (λ i-xs. traces e i-xs)
+            (λ same. subst (λ (e : Spot). Traced nil plus f g p cells e S) (sym same)
+            (subst (λ (t : Tree). Traces nil plus (site p) (scores f g p) (memory (p .budget + 1) cells) (x .node) t (x .left) (x .right) (x .hours) S) (sym is) (lk, rk, none)))
+            (in-cases e x xs ie))
             (λ i outside. agrees i (λ e ie. outside e (in-old e x xs ie)));
         light = omega (arith, old .light, load-more (leaves-at p) xs x);
       }
+
+  -- before the first step, and after the last
+  pub pending-start : (marks : List Bool) → length marks ≡ 64 → Entry p cells marks top → leaves-at p top ≤ 128 → Pending nil plus f g p cells top (top ∷ []) marks
+  pending-start marks wide entry few = record {
+    wide = wide;
+    each = λ e i. ⊎-elim (λ is. subst (Entry p cells marks) (sym is) entry) (λ r. absurd r) i;
+    apart = ((λ e i. absurd i), tt);
+    complete = λ S traces agrees. traces top (inl refl);
+    light = omega arith;
+  }
+
+  pub pending-end : (marks : List Bool) → Pending nil plus f g p cells top [] marks → Traced nil plus f g p cells top (λ i. getD marks i false)
+  pending-end marks h = h .complete (λ i. getD marks i false) (λ e i. absurd i) (λ i outside. refl)

@@ -67,15 +67,17 @@ module _ {F : Type 0} {f : Station → F} {g : Line → F} {nil : F} {plus : F �
         let w = ways-some share h i (omega arith) in
         let parts = joined-parts plus (share .figure) (cell-of first i) (cell-of second (count - 1 - i)) goal e in
         let le1 : i ≤ h = omega (arith, w .1) in
-        let le2 : count - 1 - i ≤ h = omega (arith, w .1) in
-        (sym allowed-is ∙ w .0, record {
-          sum = omega (arith, w .1);
-          p = parts .0;
-          q = parts .1;
-          holds-p = sym (first-same i (omega arith)) ∙ parts .2;
-          holds-q = sym (second-same (count - 1 - i) (omega arith)) ∙ parts .3;
-          makes = parts .4 ∙ ap (plus (plus (parts .0) (parts .1))) figure-is;
-        })
+        let le2 : count - 1 - i ≤ h = omega (arith, w .1) in (
+          sym allowed-is ∙ w .0,
+          record {
+            sum = omega (arith, w .1);
+            p = parts .0;
+            q = parts .1;
+            holds-p = sym (first-same i (omega arith)) ∙ parts .2;
+            holds-q = sym (second-same (count - 1 - i) (omega arith)) ∙ parts .3;
+            makes = parts .4 ∙ ap (plus (plus (parts .0) (parts .1))) figure-is;
+          },
+        )
 
     pub pass-joined : (i i′ : ℕ) → PassAttains nil plus f g p cells j a b l r h goal m i i′ → (i < count) × (joined-of plus (share .figure) (cell-of first i) (cell-of second (count - 1 - i)) ≡ Some goal)
     pass-joined i i′ u =

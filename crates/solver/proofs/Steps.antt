@@ -31,11 +31,14 @@ use Rattle.cells.proofs.Pieces.{left-on, right-on, inner-on, ends-differ, left-
 use Rattle.cells.proofs.Writing.{first-inside, second-inside, first-inside-parallel, second-inside-parallel}
 use Rattle.solver.specs.declared.cell.Spot.{Spot}
 use Rattle.solver.specs.declared.split.Split.{Split}
-use Rattle.solver.specs.Pending.{settled, first-spot, second-spot, In, load, tree-at, leaves-at, size-at, Clear, Traced, Entry, Pending}
+use Rattle.solver.specs.Pending.{settled, first-spot, second-spot, In, load, tree-at, leaves-at, size-at, Clear, Traced, Entry, Pending, Holds, with-ends}
 use Rattle.solver.specs.Sites.{site, scores, tree, middle, Ready, Filled, HalvesAt}
 use Rattle.solver.specs.Splits.{PassAttains, FirstSplit}
 use Rattle.solver.proofs.Pendings.{in-new, load-more, pending-join, pending-leaf}
-use Rattle.solver.proofs.Standing.{sub-stands}
+use Rattle.solver.proofs.Standing.{sub-stands, whole, root-tree, root-in, some-nodes}
+use Rattle.cells.proofs.Counting.{whole-leaves}
+use Rattle.solver.specs.Offers.{root}
+use lib.ListN.{replicate, length-replicate}
 
 off : (b : Bool) → (b ≡ true → ⊥) → b ≡ false
 off b f = ⊎-elim (λ e. absurd (f e)) (λ e. e) (cases-bool b)
@@ -124,16 +127,24 @@ module _ (N : Site) (A B : Tree) where
         → ((m′ : Bool) (k k′ : ℕ) → HalvesAttain j (first-of v B) (second-of v) (right (N .net) A) m′ k k′ → Leads m i m′ k) → MidIs j S m
         → Traces nil plus N P cells (first-of v B) A l (first-right j r m) i S → Traces nil plus N P cells (second-of v) B (second-left j l m) r i′ S → Traces nil plus N P cells v (joined j A B) l r h S
     trace-join Series S m i i′ cell at least mid ta tb = (
-      goal, i, i′, cell,
+      goal,
+      i,
+      i′,
+      cell,
       subst (λ (o : Bool). HalvesAttain Series (first-of v B) (second-of v) (right (N .net) A) o i i′) (sym mid) at,
       (λ m′ k k′ u. subst (λ (o : Bool). Leads o i m′ k) (sym mid) (least m′ k k′ u)),
       subst (λ (o : Bool). Traces nil plus N P cells (first-of v B) A l o i S) (sym mid) ta,
       subst (λ (o : Bool). Traces nil plus N P cells (second-of v) B o r i′ S) (sym mid) tb,
     )
     trace-join Parallel S m i i′ cell at least mid ta tb = (
-      goal, i, i′, cell, at .1,
+      goal,
+      i,
+      i′,
+      cell,
+      at .1,
       (λ k k′ u. ⊎-elim (λ before. absurd (both-ways false refl (before .1))) (λ lead. lead .1) (least false k k′ (refl, u))),
-      ta, tb,
+      ta,
+      tb,
     )
 
 -- ---- the step
@@ -218,16 +229,46 @@ module _ {F : Type 0} (nil : F) (plus : F → F → F) (f : Station → F) (g : 
         entry-one
         entry-two
         (λ S t1 t2 agree.
-            let mid = mid-is (site p) A B j S (s .opened) marks stands mid-in (λ i on n1 n2. agree i (onto (λ t. station-of (site p .net) t i ≡ true) on) n1 n2 ∙ ap (λ (ms : List Bool). getD ms i false) after-is) in
-            let attain = moves (λ w y z. HalvesAttain (site p) A B nil plus (scores f g p) (memory (p .budget + 1) cells) (x .node) (x .left) (x .right) (x .hours) goal j w y z (s .opened) (s .first) (s .second)) (first .attains) in
-            let least = moves (λ w y z. (m′ : Bool) (k k′ : ℕ) → HalvesAttain (site p) A B nil plus (scores f g p) (memory (p .budget + 1) cells) (x .node) (x .left) (x .right) (x .hours) goal j w y z m′ k k′ → Leads (s .opened) (s .first) m′ k) (first .least) in
-            let ta = subst (λ (w : ℕ). Traces nil plus (site p) (scores f g p) (memory (p .budget + 1) cells) w A (x .left) (first-right j (x .right) (s .opened)) (s .first) S) (at .first-is) t1 in
-            let tb = subst (λ (w : ℕ). Traces nil plus (site p) (scores f g p) (memory (p .budget + 1) cells) w B (second-left j (x .left) (s .opened)) (x .right) (s .second) S) (at .second-is) t2 in
-            onto (λ t. Traces nil plus (site p) (scores f g p) (memory (p .budget + 1) cells) (x .node) t (x .left) (x .right) (x .hours) S)
-            (trace-join (site p) A B nil plus (scores f g p) (memory (p .budget + 1) cells) (x .node) (x .left) (x .right) (x .hours) goal j S (s .opened) (s .first) (s .second) holds attain least mid ta tb))
+        let mid = mid-is (site p) A B j S (s .opened) marks stands mid-in (λ i on n1 n2. agree i (onto (λ t. station-of (site p .net) t i ≡ true) on) n1 n2 ∙ ap (λ (ms : List Bool). getD ms i false) after-is) in
+        let attain = moves (λ w y z. HalvesAttain (site p) A B nil plus (scores f g p) (memory (p .budget + 1) cells) (x .node) (x .left) (x .right) (x .hours) goal j w y z (s .opened) (s .first) (s .second)) (first .attains) in
+        let least = moves (λ w y z. (m′ : Bool) (k k′ : ℕ) → HalvesAttain (site p) A B nil plus (scores f g p) (memory (p .budget + 1) cells) (x .node) (x .left) (x .right) (x .hours) goal j w y z m′ k k′ → Leads (s .opened) (s .first) m′ k) (first .least) in
+        let ta = subst (λ (w : ℕ). Traces nil plus (site p) (scores f g p) (memory (p .budget + 1) cells) w A (x .left) (first-right j (x .right) (s .opened)) (s .first) S) (at .first-is) t1 in
+        let tb = subst (λ (w : ℕ). Traces nil plus (site p) (scores f g p) (memory (p .budget + 1) cells) w B (second-left j (x .left) (s .opened)) (x .right) (s .second) S) (at .second-is) t2 in
+        onto (λ t. Traces nil plus (site p) (scores f g p) (memory (p .budget + 1) cells) (x .node) t (x .left) (x .right) (x .hours) S)
+        (trace-join (site p) A B nil plus (scores f g p) (memory (p .budget + 1) cells) (x .node) (x .left) (x .right) (x .hours) goal j S (s .opened) (s .first) (s .second) holds attain least mid ta tb))
         (ap leaves (at .tree-is) ∙ leaves-halves j A B)
         (length-settled j (middle p a) (s .opened) marks ∙ old .wide)
 
     -- and there is less to trace
     pub step-less : load (size-at p) ((xs ++ two ∷ []) ++ one ∷ []) < load (size-at p) (xs ++ x ∷ [])
     step-less = omega (arith, load-more (size-at p) (xs ++ two ∷ []) one, load-more (size-at p) xs two, load-more (size-at p) xs x, ap size (at .tree-is) ∙ size-halves j A B)
+
+-- ---- the first cell
+
+module _ {F : Type 0} (p : Plant) (ready : Ready p) (cells : List (Option F)) (top : Spot) (at : top .node ≡ root p) where
+  top-tree : tree-at p top ≡ tree p
+  top-tree = ap (sub (tree p)) at ∙ root-tree p ready
+
+  pub top-wide : length (with-ends p top) ≡ 64
+  top-wide = length-set (set (replicate 64 false) (left (site p .net) (tree p)) (top .left)) (right (site p .net) (tree p)) (top .right) ∙ length-set (replicate 64 false) (left (site p .net) (tree p)) (top .left) ∙ length-replicate 64 false
+
+  pub top-light : leaves-at p top ≤ 128
+  top-light = omega (arith, ap leaves top-tree, whole-leaves (site p) (length (p .stations .now)) (length (p .lines .now)) (tree p) (whole p ready), ready .plant .few-lines)
+
+  pub top-entry : top .hours ≤ p .budget → Holds p cells top → Entry p cells (with-ends p top) top
+  top-entry le held =
+      let L = left (site p .net) (tree p) in
+      let R = right (site p .net) (tree p) in
+      let in-marks = root-in p ready in
+      let one = set (replicate 64 false) L (top .left) in
+      let long : length one ≡ 64 = length-set (replicate 64 false) L (top .left) ∙ length-replicate 64 false in
+      let bare : length (replicate 64 false) ≡ 64 = length-replicate 64 false in
+      let differ : L ≡ R → ⊥ = ends-differ (site p .net) (tree p) (whole p ready .builds) in
+      record {
+        within = omega (arith, at, some-nodes p ready);
+        hours = le;
+        goal = held .0;
+        holds = held .1;
+        at-left = ap (λ (t : Tree). getD (with-ends p top) (left (site p .net) t) false) top-tree ∙ getD-set-other one R L (top .right) false differ ∙ getD-set-same (replicate 64 false) L (top .left) false (omega (arith, ready .plant .few-stations));
+        at-right = ap (λ (t : Tree). getD (with-ends p top) (right (site p .net) t) false) top-tree ∙ getD-set-same one R (top .right) false (omega (arith, ready .plant .few-stations));
+      }

@@ -3,3 +3,4 @@ pub mod Sites
 pub mod Offers
 pub mod Splits
 pub mod Pending
+pub mod Solutions

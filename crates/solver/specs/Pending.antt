@@ -4,7 +4,7 @@ use mathlib.Core.Bool.{Bool, true, false, cond}
 use mathlib.Core.List.{List, [], _∷_, _++_}
 use mathlib.Core.Logic.{_⊎_}
 use Prim.Native.Nat.{ℕ, _+_, _<_, _≤_}
-use lib.ListN.{length, getD, set}
+use lib.ListN.{length, getD, set, replicate}
 use Rattle.std.specs.declared.option.Option.{Option}
 use Rattle.std.specs.declared.option.Option.the-variants.{Some, None}
 use Rattle.plant.specs.declared.records.Station.{Station}
@@ -92,3 +92,7 @@ Holds {F} p cells e = (goal : F) × (memory (p .budget + 1) cells (e .node) (e .
 abbrev pub SplitOf : {F : Type 0} → F → (F → F → F) → (Station → F) → (Line → F) → Plant → List (Option F) → Join → ℕ → ℕ → Spot → Split → Type 0
 SplitOf {F} nil plus f g p cells j a b e s =
     (goal : F) × (memory (p .budget + 1) cells (e .node) (e .left) (e .right) (e .hours) ≡ Some goal) × FirstSplit nil plus f g p cells j a b (e .left) (e .right) (e .hours) goal s
+
+-- the two ends of the plant in the states of the root's cell, and nothing else
+abbrev pub with-ends : Plant → Spot → List Bool
+with-ends p e = set (set (replicate 64 false) (left (site p .net) (tree p)) (e .left)) (right (site p .net) (tree p)) (e .right)

@@ -13,7 +13,6 @@ ghost use Rattle.cells.specs.Subtrees.{sub};
 ghost use Rattle.cells.specs.Tables.{memory, most, row-start, place, need-of};
 ghost use Rattle.cells.specs.Tops.{Tops, Split, cell-of};
 ghost use Rattle.solver.specs.Sites.{site, scores, tree, Ready, Filled, Known, HalvesAt, Passing, middle, leaf-cell, RowFilled, NodesFilled};
-
 use crate::cell::Cell;
 use crate::cell::Spot;
 use crate::cell::put_cell;

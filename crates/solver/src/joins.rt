@@ -9,7 +9,6 @@ ghost use Rattle.plant.specs.Records.{StationInRange, allows};
 ghost use Rattle.yardsticks.specs.Laws.{limit};
 ghost use Rattle.cells.specs.Tops.{Tops, Split, Fair, cell-of, better-of, joined-of};
 ghost use Rattle.solver.specs.Shares.{share as shareBy, Joined};
-
 use crate::cell::Cell;
 use crate::share::Share;
 use plant::records::Hold;

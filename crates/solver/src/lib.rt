@@ -5,5 +5,6 @@ pub mod joins;
 pub mod offer;
 pub mod root;
 pub mod share;
+pub mod solve;
 pub mod split;
 pub mod trace;

@@ -9,7 +9,6 @@ ghost use Rattle.yardsticks.specs.Laws.{limit};
 ghost use Rattle.cells.specs.Tops.{cell-of, better-of};
 ghost use Rattle.solver.specs.Offers.{outranks as outranksBy, offer-of, Leading, RowOffers, RowFair, EndsOffers, RootOffers, share-at};
 ghost use Rattle.solver.specs.Sites.{site, tree, Ready, Filled};
-
 use crate::cell::Cell;
 use crate::cell::Spot;
 use crate::cell::row_of;
@@ -41,7 +40,13 @@ fn leading<Y: Yardstick>(
     ensures { λ r. ⌜ r ≡ better-of (outranksBy (Y·Yardstick .above)) a b ⌝ }
 {
     match (a, b) {
-        (Some(p), Some(q)) => { if outranks(y, &q, &p) { Some(q) } else { Some(p) } }
+        (Some(p), Some(q)) => {
+            if outranks(y, &q, &p) {
+                Some(q)
+            } else {
+                Some(p)
+            }
+        }
         (Some(p), None) => Some(p),
         (None, _) => b,
     }
@@ -111,7 +116,7 @@ fn row_offer<Y: Yardstick>(
 }
 
 // The last node, whose piece is the whole plant.
-fn root_node(plant: &Plant<'_>) -> Node
+pub fn root_node(plant: &Plant<'_>) -> Node
     requires { ⌜ Ready (now plant) ⌝ }
     ensures left { λ r. ⌜ r .left ≡ leftEnd (site (now (plant .entry)) .net) (tree (now (plant .entry))) ⌝ }
     ensures right { λ r. ⌜ r .right ≡ rightEnd (site (now (plant .entry)) .net) (tree (now (plant .entry))) ⌝ }

@@ -11,10 +11,10 @@ ghost use Rattle.std.specs.declared.option.Option.the-variants.{Some, None};
 ghost use Rattle.yardsticks.specs.Laws.{limit};
 ghost use Rattle.cells.specs.Tops.{cell-of, joined-of};
 ghost use Rattle.plant.specs.Selections.{Wide, among};
-ghost use Rattle.solver.specs.Pending.{settled, first-spot, second-spot, Pending, load, size-at, Holds, SplitOf};
+ghost use Rattle.solver.specs.Pending.{settled, first-spot, second-spot, Pending, load, size-at, Holds, SplitOf, Traced, with-ends};
+ghost use Rattle.solver.specs.Offers.{root as rootOf};
 ghost use Rattle.solver.specs.Sites.{site, scores, tree, middle as middleOf, Ready, Filled, HalvesAt};
 ghost use Rattle.solver.specs.Splits.{ways as waysBy, FirstSplit, NoSplit};
-
 use crate::cell::Cell;
 use crate::cell::Spot;
 use crate::cell::row_of;
@@ -24,6 +24,7 @@ use crate::fill::first_right;
 use crate::fill::second_left;
 use crate::fill::shape_at;
 use crate::joins::joined;
+use crate::root::root_node;
 use crate::share::Share;
 use crate::split::Split;
 use plant::selection::Selection;
@@ -221,4 +222,38 @@ fn trace_all<Y: Yardstick>(
             put_off(stack, first_spot(halves, spot, split));
         }
     }
+}
+
+// A selection with the plant's two ends in the states of the root's cell, and nothing else.
+fn with_ends(plant: &Plant<'_>, root: Spot) -> Selection
+    requires { ⌜ Ready (now plant) ⌝ }
+    ensures { λ r. ⌜ r .open ≡ with-ends (now (plant .entry)) root ⌝ }
+{
+    let mut picked = Selection::none();
+    let ends = root_node(plant);
+    picked.open[ends.left] = root.left;
+    picked.open[ends.right] = root.right;
+    picked
+}
+
+// The list that the root's cell leads to.
+pub fn trace<Y: Yardstick>(
+    plant: &Plant<'_>,
+    y: &Y,
+    cells: &[Cell<Y::Figure>],
+    root: Spot,
+) -> Selection
+    requires ready { ⌜ Ready (now plant) ⌝ }
+    requires filled { ⌜ Filled (Y·Yardstick .nil) (Y·Yardstick .plus) (Y·Yardstick .above) (Y·Yardstick .station) (Y·Yardstick .line) (now plant) (now cells) (length (now (now plant .nodes))) ⌝ }
+    requires top { ⌜ root .node ≡ rootOf (now plant) ⌝ }
+    requires hours { ⌜ root .hours ≤ now plant .budget ⌝ }
+    requires holds { ⌜ Holds (now plant) (now cells) root ⌝ }
+    ensures wide { λ r. ⌜ Wide r ⌝ }
+    ensures traced { λ r. ⌜ Traced (Y·Yardstick .nil) (Y·Yardstick .plus) (Y·Yardstick .station) (Y·Yardstick .line) (now (plant .entry)) (now (cells .entry)) root (among r) ⌝ }
+{
+    let mut picked = with_ends(plant, root);
+    let mut entries = [root; 128];
+    let mut stack = Stack::new(&mut entries);
+    trace_all(plant, y, cells, root, &mut stack, &mut picked);
+    picked
 }

@@ -7,7 +7,6 @@ ghost use Rattle.plant.specs.Records.{StationsInRange, LinesInRange, LineInRang
 ghost use Rattle.plant.specs.Selections.{Wide, among, upto, open-station, open-line, figure as figureBy, gain as gainBy};
 ghost use Rattle.yardsticks.specs.Laws.{record-limit};
 ghost use Rattle.yardsticks.specs.Models.{urgent-gain};
-
 use crate::figures::UrgentGain;
 use crate::money::Money;
 use crate::money::MoneyYardstick;

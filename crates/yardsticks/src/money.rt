@@ -1,6 +1,5 @@
 // The gain, in cents.
 ghost use Rattle.yardsticks.specs.Models.{money-station, money-line, money-zero, money-plus, money-above, money-size};
-
 use crate::yardstick::Yardstick;
 use plant::records::Line;
 use plant::records::Station;

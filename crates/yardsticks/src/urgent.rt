@@ -1,6 +1,5 @@
 // The count of urgent stations first, and of equal counts the gain.
 ghost use Rattle.yardsticks.specs.Models.{urgent-station, urgent-line, urgent-zero, urgent-plus, urgent-above, urgent-size};
-
 use crate::figures::UrgentGain;
 use crate::yardstick::Yardstick;
 use plant::records::Line;

@@ -7,7 +7,6 @@ ghost use Rattle.plant.specs.declared.records.Station.{Station};
 ghost use Rattle.plant.specs.declared.records.Line.{Line};
 ghost use Rattle.plant.specs.Records.{StationInRange, LineInRange};
 ghost use Rattle.yardsticks.specs.Laws.{Laws, limit};
-
 use plant::records::Line;
 use plant::records::Station;
 

@@ -24,9 +24,10 @@ fill-node-requires g c κs =
 pub loop-node-again : need.loop-node-again
 loop-node-again g c =
     let p = c .args .plant .now in
-    let v = c .loop-node .node in
-    (nodes-more p (c .args .cells .now) (c .loop-node .cells) (c .fill-node .last .cells) v (c .loop-node .inv .0) (c .fill-node .ensures),
-    known-more p (c .loop-node .reach) v (c .reach-of .result) (omega (arith, few-nodes p (c .pre .ready))) (c .reach-of .ensures) (c .loop-node .inv .1))
+    let v = c .loop-node .node in (
+      nodes-more p (c .args .cells .now) (c .loop-node .cells) (c .fill-node .last .cells) v (c .loop-node .inv .0) (c .fill-node .ensures),
+      known-more p (c .loop-node .reach) v (c .reach-of .result) (omega (arith, few-nodes p (c .pre .ready))) (c .reach-of .ensures) (c .loop-node .inv .1),
+    )
 
 pub returns : need.returns
 returns g c =

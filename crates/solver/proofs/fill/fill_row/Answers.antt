@@ -39,13 +39,14 @@ loop-hours-again g c =
     let h = c .loop-hours .hours in
     let at = c .row-begin-begin .result + h in
     let lt : at < length (c .loop-hours .cells) =
-        omega (arith, row-room p (c .pre .ready) (length (c .args .cells .now)) (c .args .node) (c .args .left) (c .args .right) (c .pre .filled .room) (c .pre .within), c .loop-hours .kept .cells) in
-    let is = c .put-cell .ensures in
-    (below-more _ _
-    (λ k le. let ne : c .row-begin-begin .result + k ≢ at = omega arith in rw (is, getD-set-other) (c .loop-hours .inv .0 k le))
-    (rw (is, getD-set-same) (c .cell-at-cell .ensures)),
-    (λ k le. let ne : k ≢ at = omega arith in rw (is, getD-set-other) (c .loop-hours .inv .1 k le)),
-    (λ k le. let ne : k ≢ at = omega arith in rw (is, getD-set-other) (c .loop-hours .inv .2 k le)))
+    omega (arith, row-room p (c .pre .ready) (length (c .args .cells .now)) (c .args .node) (c .args .left) (c .args .right) (c .pre .filled .room) (c .pre .within), c .loop-hours .kept .cells) in
+    let is = c .put-cell .ensures in (
+      below-more _ _
+          (λ k le. let ne : c .row-begin-begin .result + k ≢ at = omega arith in rw (is, getD-set-other) (c .loop-hours .inv .0 k le))
+          (rw (is, getD-set-same) (c .cell-at-cell .ensures)),
+      (λ k le. let ne : k ≢ at = omega arith in rw (is, getD-set-other) (c .loop-hours .inv .1 k le)),
+      (λ k le. let ne : k ≢ at = omega arith in rw (is, getD-set-other) (c .loop-hours .inv .2 k le)),
+    )
 
 pub returns : need.returns
 returns g c =

@@ -40,6 +40,6 @@ returns g c =
     let first-same = rw (c .first-right .ensures) at (c .row-of-first .ensures .same) in
     let second-same = rw (c .second-left .ensures) at (c .row-of-second .ensures .same) in
     through-tops (g .Y·Yardstick·met .lawful) p (c .pre .ready) (c .args .cells .now) (s .node) (c .pre .filled) (c .args .reach .now) (c .pre .known) (c .args .halves .join) (c .args .halves .first) (c .args .halves .second) (c .pre .joins)
-        (s .left) (s .right) (s .hours) (c .pre .hours) (c .args .opened) (c .row-of-first .result .now) (c .row-of-second .result .now) (c .between-share .result)
-        (c .row-of-first .ensures .long) first-same (c .row-of-second .ensures .long) second-same (c .between-share .ensures .figure) (c .between-share .ensures .hours) (c .between-share .ensures .allowed)
-        (c .best-split .result) (c .best-split .ensures)
+    (s .left) (s .right) (s .hours) (c .pre .hours) (c .args .opened) (c .row-of-first .result .now) (c .row-of-second .result .now) (c .between-share .result)
+    (c .row-of-first .ensures .long) first-same (c .row-of-second .ensures .long) second-same (c .between-share .ensures .figure) (c .between-share .ensures .hours) (c .between-share .ensures .allowed)
+    (c .best-split .result) (c .best-split .ensures)

@@ -14,9 +14,11 @@ use Rattle.solver.proofs.joins.best_sum.Needs as need
 pub loop-i-holds : need.loop-i-holds
 loop-i-holds g c =
     let y = g .Y·Yardstick in
-    let i = c .from-index-i .result in
-    (split-start (y .plus) (c .args .first .now) (c .args .second .now) (c .args .between) (c .args .rest) i
-    (⊎-elim (λ lt. let z : i ≡ 0 = omega arith in inl z) (λ ge. let z : i + length (c .args .second .now) ≤ c .args .rest + 1 = omega arith in inr z) (cases-lt (c .args .rest) (length (c .args .second .now)))), omega arith)
+    let i = c .from-index-i .result in (
+      split-start (y .plus) (c .args .first .now) (c .args .second .now) (c .args .between) (c .args .rest) i
+          (⊎-elim (λ lt. let z : i ≡ 0 = omega arith in inl z) (λ ge. let z : i + length (c .args .second .now) ≤ c .args .rest + 1 = omega arith in inr z) (cases-lt (c .args .rest) (length (c .args .second .now)))),
+      omega arith,
+    )
 
 pub joined-sum-requires : need.joined-sum-requires
 joined-sum-requires g c κs p q e f =
@@ -35,9 +37,11 @@ loop-i-again g c =
     let i = c .loop-i .i in
     let j = c .args .rest - i in
     let one = getD-read first i (c .index-first-i .result) (omega arith) (c .index-first-i .is) None in
-    let two = getD-read second j (c .index-second-rest .result) (omega arith) (c .index-second-rest .is) None in
-    (rw (c .better-best .ensures, c .joined-sum .ensures, one, two)
-    (tops-step laws (λ k x. joined-of (y .plus) (c .args .between) (cell-of first k) (cell-of second (c .args .rest - k)) ≡ Some x) i (c .loop-i .best) (joined-of (y .plus) (c .args .between) (cell-of first i) (cell-of second j)) (c .loop-i .inv .0) (tops-one laws _)), omega arith)
+    let two = getD-read second j (c .index-second-rest .result) (omega arith) (c .index-second-rest .is) None in (
+      rw (c .better-best .ensures, c .joined-sum .ensures, one, two)
+          (tops-step laws (λ k x. joined-of (y .plus) (c .args .between) (cell-of first k) (cell-of second (c .args .rest - k)) ≡ Some x) i (c .loop-i .best) (joined-of (y .plus) (c .args .between) (cell-of first i) (cell-of second j)) (c .loop-i .inv .0) (tops-one laws _)),
+      omega arith,
+    )
 
 pub returns : need.returns
 returns g c =

@@ -147,7 +147,7 @@ loop-spot-less-in-Join g c =
     let second-is = c .second-spot .ensures in
     let first-is = c .first-spot .ensures in
     let all : held (c .put-off-in-Join-2 .last .stack) ≡ (xs ++ second-spot j b spot s ∷ []) ++ first-spot j a spot s ∷ [] =
-        first-held-2 ∙ ap (λ (ys : List Spot). ys ++ c .first-spot .result ∷ []) (second-held ∙ ap (λ (e : Spot). xs ++ e ∷ []) second-is) ∙ ap (λ (e : Spot). (xs ++ second-spot j b spot s ∷ []) ++ e ∷ []) first-is in
+    first-held-2 ∙ ap (λ (ys : List Spot). ys ++ c .first-spot .result ∷ []) (second-held ∙ ap (λ (e : Spot). xs ++ e ∷ []) second-is) ∙ ap (λ (e : Spot). (xs ++ second-spot j b spot s ∷ []) ++ e ∷ []) first-is in
     let less = step-less (y .nil) (y .plus) (y .station) (y .line) p (c .pre .ready) cells top xs spot (c .loop-spot .picked .open) here j a b at (of .0) s (of .1) (of .2) in
     let lt : load (size-at p) (held (c .put-off-in-Join-2 .last .stack)) < load (size-at p) (held (c .loop-spot .stack)) = omega (arith, less, ap (load (size-at p)) all, ap (load (size-at p)) popped) in
     lt
@@ -177,15 +177,16 @@ loop-spot-again-in-Join g c =
     let second-is = c .second-spot .ensures in
     let first-is = c .first-spot .ensures in
     let all : held (c .put-off-in-Join-2 .last .stack) ≡ (xs ++ second-spot j b spot s ∷ []) ++ first-spot j a spot s ∷ [] =
-        first-held-2 ∙ ap (λ (ys : List Spot). ys ++ c .first-spot .result ∷ []) (second-held ∙ ap (λ (e : Spot). xs ++ e ∷ []) second-is) ∙ ap (λ (e : Spot). (xs ++ second-spot j b spot s ∷ []) ++ e ∷ []) first-is in
-    ((λ t h.
-        let was = c .loop-spot .inv .0 t h in
-        let is = subst (λ (ys : List Spot). Pending (y .nil) (y .plus) (y .station) (y .line) p cells t ys (c .loop-spot .picked .open)) popped was in
-        let next = step-join (y .nil) (y .plus) (y .station) (y .line) p (c .pre .ready) cells t xs spot (c .loop-spot .picked .open) is j a b at (of .0) s (of .1) (of .2) in
-        let marked = subst (λ ms. Pending (y .nil) (y .plus) (y .station) (y .line) p cells t ((xs ++ second-spot j b spot s ∷ []) ++ first-spot j a spot s ∷ []) ms) (sym (c .settle .ensures)) next in
-        subst (λ (ys : List Spot). Pending (y .nil) (y .plus) (y .station) (y .line) p cells t ys (c .settle .last .picked .open)) (sym all) marked),
-    c .put-off-in-Join-2 .ensures .whole,
-    c .put-off-in-Join-2 .ensures .room ∙ c .put-off-in-Join .ensures .room ∙ c .in-Some .ensures tt .room ∙ c .loop-spot .inv .2)
+    first-held-2 ∙ ap (λ (ys : List Spot). ys ++ c .first-spot .result ∷ []) (second-held ∙ ap (λ (e : Spot). xs ++ e ∷ []) second-is) ∙ ap (λ (e : Spot). (xs ++ second-spot j b spot s ∷ []) ++ e ∷ []) first-is in (
+      (λ t h.
+          let was = c .loop-spot .inv .0 t h in
+          let is = subst (λ (ys : List Spot). Pending (y .nil) (y .plus) (y .station) (y .line) p cells t ys (c .loop-spot .picked .open)) popped was in
+          let next = step-join (y .nil) (y .plus) (y .station) (y .line) p (c .pre .ready) cells t xs spot (c .loop-spot .picked .open) is j a b at (of .0) s (of .1) (of .2) in
+          let marked = subst (λ ms. Pending (y .nil) (y .plus) (y .station) (y .line) p cells t ((xs ++ second-spot j b spot s ∷ []) ++ first-spot j a spot s ∷ []) ms) (sym (c .settle .ensures)) next in
+          subst (λ (ys : List Spot). Pending (y .nil) (y .plus) (y .station) (y .line) p cells t ys (c .settle .last .picked .open)) (sym all) marked),
+      c .put-off-in-Join-2 .ensures .whole,
+      c .put-off-in-Join-2 .ensures .room ∙ c .put-off-in-Join .ensures .room ∙ c .in-Some .ensures tt .room ∙ c .loop-spot .inv .2,
+    )
 
 pub loop-spot-less : need.loop-spot-less
 loop-spot-less g c =
@@ -220,13 +221,14 @@ loop-spot-again g c =
     let here = subst (λ (ys : List Spot). Pending (y .nil) (y .plus) (y .station) (y .line) p cells top ys (c .loop-spot .picked .open)) popped now in
     let entry = here .each spot (in-new spot xs) in
     let k = c .in-rest-shape-at .field-0 in
-    let is = leaf-at p (c .pre .ready) (spot .node) k (entry .within) (sym (c .in-rest-shape-at .ensures tt)) in
-    ((λ t h.
-        let was = c .loop-spot .inv .0 t h in
-        let it = subst (λ (ys : List Spot). Pending (y .nil) (y .plus) (y .station) (y .line) p cells t ys (c .loop-spot .picked .open)) popped was in
-        step-leaf (y .nil) (y .plus) (y .station) (y .line) p (c .pre .ready) cells t xs spot (c .loop-spot .picked .open) it (y .above) (y .size) (g .Y·Yardstick·met .lawful) (c .pre .filled) k is),
-    c .in-Some .ensures tt .whole,
-    c .in-Some .ensures tt .room ∙ c .loop-spot .inv .2)
+    let is = leaf-at p (c .pre .ready) (spot .node) k (entry .within) (sym (c .in-rest-shape-at .ensures tt)) in (
+      (λ t h.
+          let was = c .loop-spot .inv .0 t h in
+          let it = subst (λ (ys : List Spot). Pending (y .nil) (y .plus) (y .station) (y .line) p cells t ys (c .loop-spot .picked .open)) popped was in
+          step-leaf (y .nil) (y .plus) (y .station) (y .line) p (c .pre .ready) cells t xs spot (c .loop-spot .picked .open) it (y .above) (y .size) (g .Y·Yardstick·met .lawful) (c .pre .filled) k is),
+      c .in-Some .ensures tt .whole,
+      c .in-Some .ensures tt .room ∙ c .loop-spot .inv .2,
+    )
 
 pub returns : need.returns
 returns g c =
