@@ -1,4 +1,5 @@
 -- The ranges of a plant's records, and what a hold allows. Assumes nothing.
+use mathlib.Core.Path.{_≡_}
 use mathlib.Core.Bool.{Bool, true, false, not}
 use mathlib.Core.List.{List}
 use Prim.Native.Nat.{ℕ, _<_, _≤_}
@@ -53,3 +54,10 @@ StationsInRange ss = (i : ℕ) → i < length ss → StationInRange (station ss 
 
 abbrev pub LinesInRange : List Line → Type 0
 LinesInRange ls = (k : ℕ) → k < length ls → LineInRange (line ls k)
+
+-- a line runs between two different stations of n
+abbrev pub LineBetween : ℕ → Line → Type 0
+LineBetween n l = (l .from < n) × (l .to < n) × (l .from ≡ l .to → ⊥)
+
+abbrev pub LinesBetween : ℕ → List Line → Type 0
+LinesBetween n ls = (k : ℕ) → k < length ls → LineBetween n (line ls k)

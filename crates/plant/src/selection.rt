@@ -1,6 +1,6 @@
 // A selection: which stations are to be opened.
 ghost use mathlib.Core.Path.{_≡_};
-ghost use mathlib.Core.Bool.{true, false, cond};
+ghost use mathlib.Core.Bool.{true, false, cond, not, _&&_};
 ghost use Prim.Native.Nat.{ℕ, _+_, _*_, _<_, _≤_};
 ghost use lib.IntN.{pos, _+ℤ_, natAbs};
 ghost use lib.ListN.{length, getD, set, replicate};
@@ -45,6 +45,31 @@ impl Selection {
         } else {
             false
         }
+    }
+
+    // This selection, and one station more.
+    pub fn with(&self, station: usize) -> Selection
+        requires wide { ⌜ Wide (now self) ⌝ }
+        requires within { ⌜ station < 64 ⌝ }
+        ensures wide { λ r. ⌜ Wide r ⌝ }
+        ensures open { λ r. ⌜ r .open ≡ set (now (self .entry) .open) station true ⌝ }
+    {
+        let mut open = self.open;
+        open[station] = true;
+        Selection { open }
+    }
+
+    // The stations of this selection that are not in the other.
+    pub fn without(&self, other: &Selection) -> Selection
+        requires wide { ⌜ Wide (now self) ⌝ ∗ ⌜ Wide (now other) ⌝ }
+        ensures wide { λ r. ⌜ Wide r ⌝ }
+        ensures among { λ r. ⌜ ((k : ℕ) → among r k ≡ (among (now (self .entry)) k && not (among (now (other .entry)) k))) ⌝ }
+    {
+        let mut open = [false; 64];
+        for k in 0..MAX_STATIONS {
+            open[k] = self.open[k] && !other.open[k];
+        }
+        Selection { open }
     }
 
     // The hours of its stations.

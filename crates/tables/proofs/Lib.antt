@@ -3,3 +3,4 @@ pub mod Sweep
 pub mod Complete
 pub mod Capped
 pub mod Spelling
+pub mod Laying

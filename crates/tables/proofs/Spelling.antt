@@ -33,7 +33,7 @@ numeral-text [] u p = absurd (omega arith)
 numeral-text (d ∷ []) u p = refl
 numeral-text (d ∷ e ∷ ds) u p = let n : 48 + d ≡ 48 → ⊥ = omega arith in rw (ne-eqb (48 + d) 48 n) refl
 
-spelled-some : (n : ℕ) → 0 < n → spelled n ≡ text (digitsOf 10 n)
+pub spelled-some : (n : ℕ) → 0 < n → spelled n ≡ text (digitsOf 10 n)
 spelled-some n p = let e : n ≡ 0 → ⊥ = omega arith in rw (ne-eqb n 0 e) refl
 
 written : (n : ℕ) → numeral (spelled n) ≡ Some n
@@ -47,7 +47,7 @@ written n =
     (cases-eq n 0)
 
 -- one digit more
-spelled-more : (n b : ℕ) → 0 < n → 48 ≤ b → b ≤ 57 → spelled (n * 10 + (b - 48)) ≡ spelled n ++ b ∷ []
+pub spelled-more : (n b : ℕ) → 0 < n → 48 ≤ b → b ≤ 57 → spelled (n * 10 + (b - 48)) ≡ spelled n ++ b ∷ []
 spelled-more n b p low high =
     let m = n * 10 + (b - 48) in
     let some : 0 < m = omega arith in

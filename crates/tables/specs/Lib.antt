@@ -3,3 +3,4 @@ pub mod Machine
 pub mod Reads
 pub mod Laws
 pub mod Numerals
+pub mod Laid

@@ -1,0 +1,14 @@
+pub mod Bytes
+pub mod Marking
+pub mod Growing
+pub mod Meeting
+pub mod Steps
+pub mod Wholes
+pub mod Numbering
+pub mod Spelling
+pub mod Building
+pub mod Laws
+pub mod Verdicts
+pub mod Writing
+pub mod Looks
+pub mod Finding

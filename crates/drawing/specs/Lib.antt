@@ -1,0 +1,9 @@
+pub mod Marks
+pub mod Grammar
+pub mod Written
+pub mod Faults
+pub mod Verdict
+pub mod Reads
+pub mod Halves
+pub mod Sketches
+pub mod Readings

@@ -1,0 +1,4 @@
+pub mod Verdict
+pub mod Fields
+pub mod Stations
+pub mod Lines

@@ -1,0 +1,6 @@
+// The rows of the stations' and of the lines' table.
+pub mod fields;
+pub mod kind;
+pub mod lines;
+pub mod read;
+pub mod stations;

@@ -1,0 +1,2 @@
+// Three texts become the records and the nodes of a plant, or earn one refusal.
+pub mod read;
