@@ -99,7 +99,7 @@ leaf-fits N n m k named ends lt free = record {
   fresh = λ j h. rw (sym (leaf-uses k j h)) free;
 }
 
-uses-joined : (j : Join) (a b : Tree) (k : ℕ) → uses (joined j a b) k ≡ uses a k + uses b k
+pub uses-joined : (j : Join) (a b : Tree) (k : ℕ) → uses (joined j a b) k ≡ uses a k + uses b k
 uses-joined Series a b k = refl
 uses-joined Parallel a b k = refl
 

@@ -18,7 +18,7 @@ use Rattle.drawing.specs.declared.mark.Mark.the-variants.{Comma, Close, Semico
 use Rattle.drawing.specs.Marks.{sign, digit, letter-of}
 use Rattle.drawing.specs.Grammar.{Out, good, bad, then, lit, letter, stop, digits, after-zero, number, Lines, with-lines, meet, leaf-line, join-letter, after-open, head, opened, subtree, pair, complete, none-named, ending, whole}
 use Rattle.drawing.specs.Written.{spelled, written, deep}
-use Rattle.drawing.specs.Faults.{Grammatical, Around, outside, in-first, in-second, before, standing, most, halves, All-built, total, InOrder, Meets, NoDigit, BracketTooDeep, NumberAtFault, LetterAtFault, NotDrawn}
+use Rattle.drawing.specs.Faults.{Grammatical, Around, outside, in-first, in-second, before, standing, most, halves, All-built, total, InOrder, Meets, NoDigit, Reached, at-subtree, past-zero, past-subtree, past-pair, past-semicolon, BracketTooDeep, NumberAtFault, LetterAtFault, NotDrawn}
 use Rattle.drawing.proofs.Bytes.{by-bool}
 use Rattle.drawing.proofs.Spelling.{clash, same-good, is-digit, number-good}
 use Rattle.drawing.proofs.Building.{Ends, Among, Fits, meets-series, meets-parallel, fits-draws, draws-complete}
@@ -147,7 +147,7 @@ begun c t x y e shallow room = (
 -- ---- the fault that is found
 
 pub data Found (N : Net) (n m : ℕ) (front q : List ℕ) (r : Reason) : Type 0 where
-  by-grammar : r ≡ TreeGrammar → (v : List ℕ) (t : Tree) → Grammatical t (front ++ v) → Found N n m front q r
+  by-grammar : r ≡ TreeGrammar → (v : List ℕ) (t : Tree) → Grammatical t (front ++ v) → Reached N m front → Found N n m front q r
   by-bracket : r ≡ TooDeep → BracketTooDeep N m front q → Found N n m front q r
   by-number : r ≡ LeafNumber → NumberAtFault N m front q → Found N n m front q r
   by-letter : r ≡ HalvesApart → LetterAtFault N m front q → Found N n m front q r
@@ -165,10 +165,10 @@ record Reading (N : Net) (m d : ℕ) (c : Around) (named : Lines) : Type 0 where
   depth : standing c + d ≡ 127
   shallow : most c ≤ 127
 
-in-grammar : (N : Net) (n m : ℕ) (c : Around) (text s q x y : List ℕ) (r : Reason) (t : Tree) → r ≡ TreeGrammar → text ≡ before c ++ (x ++ q) → written t ≡ x ++ y → most c ≤ 127 → standing c + deep t ≤ 127 → Place N n m text q r
-in-grammar N n m c text s q x y r t why e w shallow room =
+in-grammar : (N : Net) (n m : ℕ) (c : Around) (text s q x y : List ℕ) (r : Reason) (t : Tree) → r ≡ TreeGrammar → text ≡ before c ++ (x ++ q) → written t ≡ x ++ y → most c ≤ 127 → standing c + deep t ≤ 127 → Reached N m (before c ++ x) → Place N n m text q r
+in-grammar N n m c text s q x y r t why e w shallow room so =
     let b = begun c t x y w shallow room in
-    record { front = before c ++ x; split = e ∙ sym (append-assoc (before c) x q); found = by-grammar why (b .0) (b .1) (b .2) }
+    record { front = before c ++ x; split = e ∙ sym (append-assoc (before c) x q); found = by-grammar why (b .0) (b .1) (b .2) so }
 
 -- one tree more in order
 more-lines : (a : Tree) (ts : List Tree) (named : Lines) → ((k : ℕ) → named k ≡ ltb 0 (total ts k)) → (k : ℕ) → with-lines a named k ≡ ltb 0 (total (a ∷ ts) k)
@@ -217,8 +217,8 @@ module _ (N : Net) (n m : ℕ) (ends : Ends N n m) (few : n ≤ 64) where
       (λ f.
       let p = number-bad s r q f in
       ⊎-elim
-      (λ at. in-grammar N n m c _ s q [] (spelled 0) r (leaf 0) (p .0) (ap (λ l. before c ++ l) at) (leaf-text 0) (w .shallow) (omega (arith, w .depth)))
-      (λ at. in-grammar N n m c _ s q (48 ∷ []) [] r (leaf 0) (p .0) (ap (λ l. before c ++ l) at) (leaf-text 0) (w .shallow) (omega (arith, w .depth)))
+      (λ at. in-grammar N n m c _ s q [] (spelled 0) r (leaf 0) (p .0) (ap (λ l. before c ++ l) at) (leaf-text 0) (w .shallow) (omega (arith, w .depth)) (at-subtree c (append-nil _) (w .order)))
+      (λ at. in-grammar N n m c _ s q (48 ∷ []) [] r (leaf 0) (p .0) (ap (λ l. before c ++ l) at) (leaf-text 0) (w .shallow) (omega (arith, w .depth)) (past-zero c refl (w .order)))
       (p .1))
       (λ k.
       let g = cond-bad (ltb (k .value) m && not (named (k .value))) (leaf (k .value)) (k .mid) s q LeafNumber r (k .next) in
@@ -240,20 +240,29 @@ module _ (N : Net) (n m : ℕ) (ends : Ends N n m) (few : n ≤ 64) where
       (then-bad (number s) _ r q e)
 
   -- the parts of a pair
-  comma-place : (d : ℕ) (c : Around) (named : Lines) (s : List ℕ) (r : Reason) (q : List ℕ) (a : Tree) → Reading N m (suc d) c named → deep a ≤ d → r ≡ TreeGrammar → s ≡ written a ++ q → Place N n m (before c ++ 40 ∷ s) q r
+  first-order : (d : ℕ) (c : Around) (named : Lines) (a : Tree) → Reading N m d c named → Fits N m named a → InOrder N m (a ∷ halves c)
+  first-order d c named a w x = more-order N m a (halves c) named (w .lines) (w .order) x
+
+  both-order : (d : ℕ) (c : Around) (named : Lines) (a b : Tree) → Reading N m d c named → Fits N m named a → Fits N m (with-lines a named) b → InOrder N m (b ∷ a ∷ halves c)
+  both-order d c named a b w x y = more-order N m b (a ∷ halves c) (with-lines a named) (more-lines a (halves c) named (w .lines)) (first-order d c named a w x) y
+
+  comma-place : (d : ℕ) (c : Around) (named : Lines) (s : List ℕ) (r : Reason) (q : List ℕ) (a : Tree) → Reading N m (suc d) c named → Fits N m named a → deep a ≤ d → r ≡ TreeGrammar → s ≡ written a ++ q → Place N n m (before c ++ 40 ∷ s) q r
   unfolding written
-  comma-place d c named s r q a w h why e =
+  comma-place d c named s r q a w x h why e =
       in-grammar N n m c _ s q (40 ∷ written a) (44 ∷ 48 ∷ 41 ∷ 115 ∷ []) r (series a (leaf 0)) why (ap (λ l. before c ++ 40 ∷ l) e) refl (w .shallow) (omega (arith, w .depth))
+      (past-subtree (in-first c) a (sym (append-assoc (before c) (40 ∷ []) (written a))) (first-order (suc d) c named a w x))
 
-  close-place : (d : ℕ) (c : Around) (named : Lines) (s : List ℕ) (r : Reason) (q : List ℕ) (a b : Tree) → Reading N m (suc d) c named → deep a ≤ d → deep b ≤ d → r ≡ TreeGrammar → s ≡ written a ++ 44 ∷ (written b ++ q) → Place N n m (before c ++ 40 ∷ s) q r
+  close-place : (d : ℕ) (c : Around) (named : Lines) (s : List ℕ) (r : Reason) (q : List ℕ) (a b : Tree) → Reading N m (suc d) c named → Fits N m named a → Fits N m (with-lines a named) b → deep a ≤ d → deep b ≤ d → r ≡ TreeGrammar → s ≡ written a ++ 44 ∷ (written b ++ q) → Place N n m (before c ++ 40 ∷ s) q r
   unfolding written
-  close-place d c named s r q a b w h g why e =
+  close-place d c named s r q a b w x y h g why e =
       in-grammar N n m c _ s q (40 ∷ (written a ++ 44 ∷ written b)) (41 ∷ 115 ∷ []) r (series a b) why (ap (λ l. before c ++ 40 ∷ l) (e ∙ sym (append-assoc (written a) (44 ∷ written b) q))) (ap (λ l. 40 ∷ l) (sym (append-assoc (written a) (44 ∷ written b) (41 ∷ 115 ∷ [])))) (w .shallow) (omega (arith, w .depth))
+      (past-subtree (in-second c a) b (simp append-assoc) (both-order (suc d) c named a b w x y))
 
-  letter-place : (d : ℕ) (c : Around) (named : Lines) (s : List ℕ) (r : Reason) (q : List ℕ) (a b : Tree) → Reading N m (suc d) c named → deep a ≤ d → deep b ≤ d → r ≡ TreeGrammar → s ≡ written a ++ 44 ∷ (written b ++ 41 ∷ q) → Place N n m (before c ++ 40 ∷ s) q r
+  letter-place : (d : ℕ) (c : Around) (named : Lines) (s : List ℕ) (r : Reason) (q : List ℕ) (a b : Tree) → Reading N m (suc d) c named → Fits N m named a → Fits N m (with-lines a named) b → deep a ≤ d → deep b ≤ d → r ≡ TreeGrammar → s ≡ written a ++ 44 ∷ (written b ++ 41 ∷ q) → Place N n m (before c ++ 40 ∷ s) q r
   unfolding written
-  letter-place d c named s r q a b w h g why e =
+  letter-place d c named s r q a b w x y h g why e =
       in-grammar N n m c _ s q (40 ∷ (written a ++ 44 ∷ (written b ++ 41 ∷ []))) (115 ∷ []) r (series a b) why (ap (λ l. before c ++ 40 ∷ l) (e ∙ simp append-assoc)) (simp append-assoc) (w .shallow) (omega (arith, w .depth))
+      (past-pair (in-second c a) b (simp append-assoc) (both-order (suc d) c named a b w x y))
 
   apart-place : (d : ℕ) (c : Around) (named : Lines) (s : List ℕ) (r : Reason) (q u : List ℕ) (j : Join) (a b : Tree) → Reading N m (suc d) c named → Fits N m named a → Fits N m (with-lines a named) b → deep a ≤ d → deep b ≤ d → r ≡ HalvesApart → meet N j a b ≡ false → s ≡ written a ++ 44 ∷ (written b ++ 41 ∷ q) → q ≡ letter-of j ∷ u → Place N n m (before c ++ 40 ∷ s) q r
   apart-place d c named s r q u j a b w x y h g why f e l =
@@ -271,7 +280,7 @@ module _ (N : Net) (n m : ℕ) (ends : Ends N n m) (few : n ≤ 64) where
           fault = meet-fault N j a b f;
           shallow-first = omega (arith, w .depth, w .shallow);
           shallow-second = omega (arith, w .depth);
-          order = more-order N m b (a ∷ halves c) (with-lines a named) (more-lines a (halves c) named (w .lines)) (more-order N m a (halves c) named (w .lines) (w .order) x) y;
+          order = both-order (suc d) c named a b w x y;
         });
       }
 
@@ -279,36 +288,60 @@ module _ (N : Net) (n m : ℕ) (ends : Ends N n m) (few : n ≤ 64) where
   moved : (text text′ q : List ℕ) (r : Reason) → text′ ≡ text → Place N n m text q r → Place N n m text′ q r
   moved text text′ q r e p = record { front = p .front; split = e ∙ p .split; found = p .found }
 
-  after-found : (d : ℕ) (c : Around) (named : Lines) (s : List ℕ) (r : Reason) (q : List ℕ) → ((c : Around) (named : Lines) (s : List ℕ) → Reading N m d c named → subtree d N m named s ≡ bad r q → Place N n m (before c ++ s) q r) → Reading N m (suc d) c named → after-open N (subtree d N m) named s ≡ bad r q → Place N n m (before c ++ 40 ∷ s) q r
+  inside : (c : Around) (a : Tree) (s u : List ℕ) → s ≡ written a ++ 44 ∷ u → before c ++ 40 ∷ s ≡ (before c ++ 40 ∷ (written a ++ 44 ∷ [])) ++ u
+  inside c a s u e = ap (λ l. before c ++ 40 ∷ l) e ∙ simp append-assoc
+
+  letter-found : (d : ℕ) (c : Around) (named : Lines) (s v : List ℕ) (r : Reason) (q : List ℕ) (a b : Tree) → Reading N m (suc d) c named → Said N m d named s a (44 ∷ (written b ++ 41 ∷ v)) → Said N m d (with-lines a named) (written b ++ 41 ∷ v) b (41 ∷ v) → join-letter N a b v ≡ bad r q → Place N n m (before c ++ 40 ∷ s) q r
+  letter-found d c named s v r q a b w x y e =
+      ⊎-elim
+      (λ f. let z = letter-bad v r q f in letter-place d c named s r q a b w (x .fits) (y .fits) (x .depth) (y .depth) (z .0) (x .text ∙ ap (λ l. written a ++ 44 ∷ (written b ++ 41 ∷ l)) (z .1)))
+      (λ l.
+      let g = cond-bad (meet N (l .value) a b) (joined (l .value) a b) (l .mid) v q HalvesApart r (l .next) in
+      let there : q ≡ letter-of (l .value) ∷ l .mid = sym (g .2) ∙ letter-good v (l .value) (l .mid) (l .first) in
+      let text : s ≡ written a ++ 44 ∷ (written b ++ 41 ∷ q) = x .text ∙ ap (λ z. written a ++ 44 ∷ (written b ++ 41 ∷ z)) (g .2) in
+      apart-place d c named s r q (l .mid) (l .value) a b w (x .fits) (y .fits) (x .depth) (y .depth) (g .1) (g .0) text there)
+      (then-bad (letter v) (λ j u. cond (meet N j a b) (good (joined j a b) u) (bad HalvesApart v)) r q e)
+
+  close-found : (d : ℕ) (c : Around) (named : Lines) (s v : List ℕ) (r : Reason) (q : List ℕ) (a b : Tree) → Reading N m (suc d) c named → Said N m d named s a (44 ∷ (written b ++ v)) → Said N m d (with-lines a named) (written b ++ v) b v → then (lit Close v) (λ _ u. join-letter N a b u) ≡ bad r q → Place N n m (before c ++ 40 ∷ s) q r
+  close-found d c named s v r q a b w x y e =
+      ⊎-elim
+      (λ f. let z = lit-bad Close v r q f in close-place d c named s r q a b w (x .fits) (y .fits) (x .depth) (y .depth) (z .0) (x .text ∙ ap (λ l. written a ++ 44 ∷ (written b ++ l)) (z .1)))
+      (λ k.
+      let is = lit-good Close v (k .value) (k .mid) (k .first) in
+      letter-found d c named s (k .mid) r q a b w
+      (subst (λ l. Said N m d named s a (44 ∷ (written b ++ l))) is x)
+      (subst (λ l. Said N m d (with-lines a named) (written b ++ l) b l) is y)
+      (k .next))
+      (then-bad (lit Close v) (λ _ u. join-letter N a b u) r q e)
+
+  -- where a subtree inside the bracket is refused, it is known
+  abbrev Inner : ℕ → Reason → List ℕ → Type 0
+  Inner d r q = (c : Around) (named : Lines) (s : List ℕ) → Reading N m d c named → subtree d N m named s ≡ bad r q → Place N n m (before c ++ s) q r
+
+  second-found : (d : ℕ) (c : Around) (named : Lines) (s v : List ℕ) (r : Reason) (q : List ℕ) (a : Tree) → Inner d r q → Reading N m (suc d) c named → Said N m d named s a (44 ∷ v) → then (subtree d N m (with-lines a named) v) (λ b u. then (lit Close u) (λ _ u. join-letter N a b u)) ≡ bad r q → Place N n m (before c ++ 40 ∷ s) q r
+  second-found d c named s v r q a ih w x e =
+      ⊎-elim
+      (λ f. moved ((before c ++ 40 ∷ (written a ++ 44 ∷ [])) ++ v) (before c ++ 40 ∷ s) q r (inside c a s v (x .text)) (ih (in-second c a) (with-lines a named) v (in-second-reading d c named a w (x .fits) (x .depth)) f))
+      (λ b.
+      let y = said N n m ends few d (with-lines a named) v (b .value) (b .mid) (b .first) in
+      close-found d c named s (b .mid) r q a (b .value) w
+      (subst (λ l. Said N m d named s a (44 ∷ l)) (y .text) x)
+      (subst (λ l. Said N m d (with-lines a named) l (b .value) (b .mid)) (y .text) y)
+      (b .next))
+      (then-bad (subtree d N m (with-lines a named) v) (λ b u. then (lit Close u) (λ _ u. join-letter N a b u)) r q e)
+
+  comma-found : (d : ℕ) (c : Around) (named : Lines) (s v : List ℕ) (r : Reason) (q : List ℕ) (a : Tree) → Inner d r q → Reading N m (suc d) c named → Said N m d named s a v → then (lit Comma v) (λ _ u. then (subtree d N m (with-lines a named) u) (λ b u. then (lit Close u) (λ _ u. join-letter N a b u))) ≡ bad r q → Place N n m (before c ++ 40 ∷ s) q r
+  comma-found d c named s v r q a ih w x e =
+      ⊎-elim
+      (λ f. let p = lit-bad Comma v r q f in comma-place d c named s r q a w (x .fits) (x .depth) (p .0) (x .text ∙ ap (λ l. written a ++ l) (p .1)))
+      (λ p. second-found d c named s (p .mid) r q a ih w (subst (Said N m d named s a) (lit-good Comma v (p .value) (p .mid) (p .first)) x) (p .next))
+      (then-bad (lit Comma v) (λ _ u. then (subtree d N m (with-lines a named) u) (λ b u. then (lit Close u) (λ _ u. join-letter N a b u))) r q e)
+
+  after-found : (d : ℕ) (c : Around) (named : Lines) (s : List ℕ) (r : Reason) (q : List ℕ) → Inner d r q → Reading N m (suc d) c named → after-open N (subtree d N m) named s ≡ bad r q → Place N n m (before c ++ 40 ∷ s) q r
   after-found d c named s r q ih w e =
       ⊎-elim
-      (λ f. moved ((before c ++ 40 ∷ []) ++ s) _ q r (sym (append-assoc (before c) (40 ∷ []) s)) (ih (in-first c) named s (in-first-reading d c named w) f))
-      (λ a.
-      let x = said N n m ends few d named s (a .value) (a .mid) (a .first) in
-      let A = a .value in
-      ⊎-elim
-      (λ f. let p = lit-bad Comma (a .mid) r q f in comma-place d c named s r q A w (x .depth) (p .0) (x .text ∙ ap (λ l. written A ++ l) (p .1)))
-      (λ p.
-      let comma = x .text ∙ ap (λ l. written A ++ l) (lit-good Comma (a .mid) (p .value) (p .mid) (p .first)) in
-      ⊎-elim
-      (λ f. moved ((before c ++ 40 ∷ (written A ++ 44 ∷ [])) ++ p .mid) _ q r (ap (λ l. before c ++ 40 ∷ l) comma ∙ simp append-assoc) (ih (in-second c A) (with-lines A named) (p .mid) (in-second-reading d c named A w (x .fits) (x .depth)) f))
-      (λ b.
-      let y = said N n m ends few d (with-lines A named) (p .mid) (b .value) (b .mid) (b .first) in
-      let B = b .value in
-      let both = comma ∙ ap (λ l. written A ++ 44 ∷ l) (y .text) in
-      ⊎-elim
-      (λ f. let z = lit-bad Close (b .mid) r q f in close-place d c named s r q A B w (x .depth) (y .depth) (z .0) (both ∙ ap (λ l. written A ++ 44 ∷ (written B ++ l)) (z .1)))
-      (λ k.
-      let close = both ∙ ap (λ l. written A ++ 44 ∷ (written B ++ l)) (lit-good Close (b .mid) (k .value) (k .mid) (k .first)) in
-      ⊎-elim
-      (λ f. let z = letter-bad (k .mid) r q f in letter-place d c named s r q A B w (x .depth) (y .depth) (z .0) (close ∙ ap (λ l. written A ++ 44 ∷ (written B ++ 41 ∷ l)) (z .1)))
-      (λ l.
-      let g = cond-bad (meet N (l .value) A B) (joined (l .value) A B) (l .mid) (k .mid) q HalvesApart r (l .next) in
-      apart-place d c named s r q (l .mid) (l .value) A B w (x .fits) (y .fits) (x .depth) (y .depth) (g .1) (g .0) (close ∙ ap (λ z. written A ++ 44 ∷ (written B ++ 41 ∷ z)) (g .2)) (sym (g .2) ∙ letter-good (k .mid) (l .value) (l .mid) (l .first)))
-      (then-bad (letter (k .mid)) _ r q (k .next)))
-      (then-bad (lit Close (b .mid)) _ r q (b .next)))
-      (then-bad (subtree d N m (with-lines A named) (p .mid)) _ r q (p .next)))
-      (then-bad (lit Comma (a .mid)) _ r q (a .next)))
+      (λ f. moved ((before c ++ 40 ∷ []) ++ s) (before c ++ 40 ∷ s) q r (sym (append-assoc (before c) (40 ∷ []) s)) (ih (in-first c) named s (in-first-reading d c named w) f))
+      (λ a. comma-found d c named s (a .mid) r q (a .value) ih w (said N n m ends few d named s (a .value) (a .mid) (a .first)) (a .next))
       (then-bad (subtree d N m named s) _ r q e)
 
   bracket-place : (c : Around) (named : Lines) (s : List ℕ) (r : Reason) (q : List ℕ) → Reading N m 0 c named → _≡_ {A = Out Tree} (bad TooDeep (40 ∷ s)) (bad r q) → Place N n m (before c ++ 40 ∷ s) q r
@@ -323,7 +356,7 @@ module _ (N : Net) (n m : ℕ) (ends : Ends N n m) (few : n ≤ 64) where
   empty-place : (d : ℕ) (c : Around) (named : Lines) (r : Reason) (q : List ℕ) → Reading N m d c named → _≡_ {A = Out Tree} (bad TreeGrammar []) (bad r q) → Place N n m (before c ++ []) q r
   empty-place d c named r q w e =
       let p = same-bad {A = Tree} TreeGrammar r [] q e in
-      in-grammar N n m c _ [] q [] (spelled 0) r (leaf 0) (p .0) (ap (λ l. before c ++ l) (p .1)) (leaf-text 0) (w .shallow) (omega (arith, w .depth))
+      in-grammar N n m c _ [] q [] (spelled 0) r (leaf 0) (p .0) (ap (λ l. before c ++ l) (p .1)) (leaf-text 0) (w .shallow) (omega (arith, w .depth)) (at-subtree c (append-nil _) (w .order))
 
   subtree-found : (d : ℕ) (c : Around) (named : Lines) (s : List ℕ) (r : Reason) (q : List ℕ) → Reading N m d c named → subtree d N m named s ≡ bad r q → Place N n m (before c ++ s) q r
   subtree-found zero c named [] r q w e = empty-place zero c named r q w e
@@ -353,7 +386,7 @@ module _ (N : Net) (n m : ℕ) (ends : Ends N n m) (few : n ≤ 64) where
       ⊎-elim
       (λ f.
       let p = lit-bad Semicolon (a .mid) r q f in
-      record { front = written t; split = x .text ∙ ap (λ l. written t ++ l) (p .1); found = by-grammar (p .0) (59 ∷ []) t (record { text = refl; depth = x .depth }) })
+      record { front = written t; split = x .text ∙ ap (λ l. written t ++ l) (p .1); found = by-grammar (p .0) (59 ∷ []) t (record { text = refl; depth = x .depth }) (past-subtree outside t refl (tree-order t (x .fits))) })
       (λ p.
       let semi = x .text ∙ ap (λ l. written t ++ l) (lit-good Semicolon (a .mid) (p .value) (p .mid) (p .first)) in
       ⊎-elim
@@ -362,7 +395,7 @@ module _ (N : Net) (n m : ℕ) (ends : Ends N n m) (few : n ≤ 64) where
       record {
         front = written t ++ 59 ∷ [];
         split = semi ∙ ap (λ l. written t ++ 59 ∷ l) (z .1) ∙ sym (append-assoc (written t) (59 ∷ []) q);
-        found = by-grammar (z .0) [] t (record { text = append-nil _; depth = x .depth });
+        found = by-grammar (z .0) [] t (record { text = append-nil _; depth = x .depth }) (past-semicolon t refl (tree-order t (x .fits)));
       })
       (λ k.
       let end = stop-good (p .mid) (k .value) (k .mid) (k .first) in

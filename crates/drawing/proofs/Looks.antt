@@ -16,6 +16,7 @@ use Rattle.drawing.specs.declared.mark.Mark.the-variants.{Comma, Close, Semico
 use Rattle.drawing.specs.Marks.{sign, digit}
 use Rattle.drawing.specs.Grammar.{Out, good, bad, then, lit, letter, stop, digits, after-zero, after-first, number, Lines, with-lines, meet, leaf-line, join-letter, after-open, head, opened, subtree, pair, complete, none-named, ending, whole}
 use Rattle.drawing.proofs.Bytes.{by-bool}
+use Rattle.drawing.proofs.Spelling.{leaf-number, halves-apart, too-deep, not-plant}
 
 abbrev pub restOf : {A : Type 0} → Out A → List ℕ
 restOf (good x s) = s
@@ -201,18 +202,6 @@ number-looks (b ∷ s) =
 stop-looks : Looks stop
 stop-looks [] = at-end stop (good tt []) refl refl
 stop-looks (b ∷ s) = at-byte stop b s (bad TreeGrammar (b ∷ s)) refl (λ v. refl) refl
-
-leaf-number : LeafNumber ≡ TreeGrammar → ⊥
-leaf-number e = let z : _≡_ {A = ℕ} 0 1 = cc in omega arith
-
-halves-apart : HalvesApart ≡ TreeGrammar → ⊥
-halves-apart e = let z : _≡_ {A = ℕ} 0 1 = cc in omega arith
-
-too-deep : TooDeep ≡ TreeGrammar → ⊥
-too-deep e = let z : _≡_ {A = ℕ} 0 1 = cc in omega arith
-
-not-plant : NotThePlant ≡ TreeGrammar → ⊥
-not-plant e = let z : _≡_ {A = ℕ} 0 1 = cc in omega arith
 
 leaf-looks : (m : ℕ) (named : Lines) → Looks (leaf-line m named)
 leaf-looks m named = judged-looks number (λ k. ltb k m && not (named k)) leaf LeafNumber leaf-number number-looks

@@ -12,6 +12,7 @@ use Rattle.std.proofs.shelf.Digits.{digitsOf-step, under-digitsOf, first-digits
 use Rattle.std.proofs.shelf.Lists.{map-append}
 use Rattle.std.proofs.shelf.Tests.{cases-eq, eqb-true, eqb-false, ne-eqb, eq-eqb, le-leb, leb-true, and-parts, and-from}
 use Rattle.plant.specs.declared.refusal.Reason.{Reason}
+use Rattle.plant.specs.declared.refusal.Reason.the-variants.{TreeGrammar, TooDeep, LeafNumber, HalvesApart, NotThePlant}
 use Rattle.drawing.specs.Marks.{digit}
 use Rattle.drawing.specs.Grammar.{Out, good, bad, digits, after-zero, after-first, number}
 use Rattle.drawing.specs.Written.{spelled}
@@ -21,6 +22,19 @@ use Rattle.drawing.proofs.Bytes.{by-bool}
 -- a refusal is not a value
 pub clash : {A : Type 0} {P : Type 0} (r : Reason) (s u : List ℕ) (x : A) → bad r s ≡ good x u → P
 clash r s u x e = let z : _≡_ {A = ℕ} 0 1 = cc in absurd (omega arith)
+
+-- the other reasons are not the grammar's
+pub too-deep : TooDeep ≡ TreeGrammar → ⊥
+too-deep e = let z : _≡_ {A = ℕ} 0 1 = cc in omega arith
+
+pub leaf-number : LeafNumber ≡ TreeGrammar → ⊥
+leaf-number e = let z : _≡_ {A = ℕ} 0 1 = cc in omega arith
+
+pub halves-apart : HalvesApart ≡ TreeGrammar → ⊥
+halves-apart e = let z : _≡_ {A = ℕ} 0 1 = cc in omega arith
+
+pub not-plant : NotThePlant ≡ TreeGrammar → ⊥
+not-plant e = let z : _≡_ {A = ℕ} 0 1 = cc in omega arith
 
 pub same-good : {A : Type 0} (x y : A) (s u : List ℕ) → good x s ≡ good y u → (x ≡ y) × (s ≡ u)
 same-good x y s u e = (cc, cc)

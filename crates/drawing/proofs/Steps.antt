@@ -90,23 +90,16 @@ leaf-refused before t s n e r sound l taken is =
 -- ---- a pair
 
 -- the lines of two halves
+with-sum : (x y : ℕ) (c : Bool) → (ltb 0 y || (ltb 0 x || c)) ≡ (ltb 0 (x + y) || c)
+with-sum x y c =
+    ⊎-elim
+    (λ p. rw (lt-ltb 0 y p, lt-ltb 0 (x + y) (omega arith)) refl)
+    (λ z. let e : x + y ≡ x = omega arith in rw (le-ltb 0 y z, e) refl)
+    (cases-lt 0 y)
+
 with-both : (j : Join) (a b : Tree) (named : Lines) → with-lines b (with-lines a named) ≡ with-lines (joined j a b) named
 with-both Series a b named = λ i k. with-sum (uses a k) (uses b k) (named k) i
-  where
-    with-sum : (x y : ℕ) (c : Bool) → (ltb 0 y || (ltb 0 x || c)) ≡ (ltb 0 (x + y) || c)
-    with-sum x y c =
-        ⊎-elim
-        (λ p. rw (lt-ltb 0 y p, lt-ltb 0 (x + y) (omega arith)) refl)
-        (λ z. let e : x + y ≡ x = omega arith in rw (le-ltb 0 y z, e) refl)
-        (cases-lt 0 y)
 with-both Parallel a b named = λ i k. with-sum (uses a k) (uses b k) (named k) i
-  where
-    with-sum : (x y : ℕ) (c : Bool) → (ltb 0 y || (ltb 0 x || c)) ≡ (ltb 0 (x + y) || c)
-    with-sum x y c =
-        ⊎-elim
-        (λ p. rw (lt-ltb 0 y p, lt-ltb 0 (x + y) (omega arith)) refl)
-        (λ z. let e : x + y ≡ x = omega arith in rw (le-ltb 0 y z, e) refl)
-        (cases-lt 0 y)
 
 pub two-halves : (h₀ h₁ h₂ : List Half) (a b : Half) → h₁ ≡ h₀ ++ a ∷ [] → h₂ ≡ h₁ ++ b ∷ [] → h₂ ≡ h₀ ++ a ∷ b ∷ []
 two-halves h₀ h₁ h₂ a b p q = q ∙ ap (λ h. h ++ b ∷ []) p ∙ append-assoc h₀ (a ∷ []) (b ∷ [])

@@ -19,7 +19,7 @@ use Rattle.plant.specs.Tables.{listed, Sound}
 use Rattle.drawing.specs.Grammar.{Out, good, bad, whole}
 use Rattle.drawing.specs.Reads.{Faulted}
 use Rattle.drawing.specs.Verdict.{Verdict, accepted, refused, settled, verdict, Joins, Writes, Accepted, Refused, Answers, AcceptedWhenWritten, RefusedAtFirstFault}
-use Rattle.drawing.specs.Faults.{Grammatical, OutsideGrammar, Fault, FirstFault}
+use Rattle.drawing.specs.Faults.{Grammatical, Reached, OutsideGrammar, Fault, FirstFault}
 use Rattle.drawing.proofs.Numbering.{tree-of-numbered}
 use Rattle.drawing.proofs.Spelling.{clash}
 use Rattle.drawing.proofs.Laws.{Drawn-by, whole-said}
@@ -82,17 +82,18 @@ never-grammar N n m s q t w e =
     same-reason : (r w : Reason) (s q : List ℕ) → _≡_ {A = Out Tree} (bad r s) (bad w q) → r ≡ w
     same-reason r w s q e = cc
 
-outside-grammar : (N : Net) (n m : ℕ) (s front q : List ℕ) (v : List ℕ) (t : Tree) → s ≡ front ++ q → whole 127 N n m s ≡ bad TreeGrammar q → Grammatical t (front ++ v) → OutsideGrammar front q
-outside-grammar N n m s front q v t split e g = record {
+outside-grammar : (N : Net) (n m : ℕ) (s front q : List ℕ) (v : List ℕ) (t : Tree) → s ≡ front ++ q → whole 127 N n m s ≡ bad TreeGrammar q → Grammatical t (front ++ v) → Reached N m front → OutsideGrammar N m front q
+outside-grammar N n m s front q v t split e g so = record {
   begins = (v, t, g);
   ended = λ none t w. never-grammar N n m s q t (subst (Grammatical t) (sym (split ∙ ap (λ l. front ++ l) none ∙ append-nil front)) w) e;
   hopeless = λ b u v t is w. never-grammar N n m (front ++ b ∷ v) (b ∷ v) t w (stays N n m s front q split e b u v is);
+  reached = so;
 }
 
 found-fault : (N : Net) (n m : ℕ) (s front q : List ℕ) (r : Reason) → s ≡ front ++ q → whole 127 N n m s ≡ bad r q → Found N n m front q r → Fault N n m front q r
 found-fault N n m s front q r split e f =
     elim f [
-      | by-grammar w v t g ↦ subst (Fault N n m front q) (sym w) (outside-grammar N n m s front q v t split (e ∙ ap (λ x. bad x q) w) g)
+      | by-grammar w v t g so ↦ subst (Fault N n m front q) (sym w) (outside-grammar N n m s front q v t split (e ∙ ap (λ x. bad x q) w) g so)
       | by-bracket w x ↦ subst (Fault N n m front q) (sym w) x
       | by-number w x ↦ subst (Fault N n m front q) (sym w) x
       | by-letter w x ↦ subst (Fault N n m front q) (sym w) x

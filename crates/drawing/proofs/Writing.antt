@@ -18,8 +18,8 @@ use Rattle.drawing.specs.Grammar.{Out, good, bad, then, lit, letter, stop, num
 use Rattle.drawing.specs.Written.{spelled, written, deep}
 use Rattle.drawing.specs.Faults.{NoDigit}
 use Rattle.drawing.proofs.Bytes.{by-bool}
-use Rattle.drawing.proofs.Spelling.{number-reads, Begins, begins}
-use Rattle.drawing.proofs.Building.{Ends, Among, Fits, uses-self, meets-series, meets-parallel, draws-complete}
+use Rattle.drawing.proofs.Spelling.{leaf-number, halves-apart, not-plant, number-reads, Begins, begins}
+use Rattle.drawing.proofs.Building.{Ends, Among, Fits, uses-self, uses-joined, meets-series, meets-parallel, draws-complete}
 
 letter-reads : (j : Join) (s : List ℕ) → letter (letter-of j ∷ s) ≡ good j s
 letter-reads Series s = refl
@@ -64,10 +64,6 @@ builds-first N Parallel a b w = w .0
 builds-second : (N : Net) (j : Join) (a b : Tree) → Builds N (joined j a b) → Builds N b
 builds-second N Series a b w = w .1
 builds-second N Parallel a b w = w .1
-
-uses-joined : (j : Join) (a b : Tree) (k : ℕ) → uses (joined j a b) k ≡ uses a k + uses b k
-uses-joined Series a b k = refl
-uses-joined Parallel a b k = refl
 
 fits-first : (N : Net) (m : ℕ) (named : Lines) (j : Join) (a b : Tree) → Fits N m named (joined j a b) → Fits N m named a
 fits-first N m named j a b w = record {
@@ -125,15 +121,6 @@ whole-reads d N n m s t e h w =
 pub data Sorted (t : Tree) (u : List ℕ) (o : Out Tree) : Type 0 where
   tree : o ≡ good t u → Sorted t u o
   other : (r : Reason) (q : List ℕ) → o ≡ bad r q → (r ≡ TreeGrammar → ⊥) → Sorted t u o
-
-leaf-number : LeafNumber ≡ TreeGrammar → ⊥
-leaf-number e = let z : _≡_ {A = ℕ} 0 1 = cc in omega arith
-
-halves-apart : HalvesApart ≡ TreeGrammar → ⊥
-halves-apart e = let z : _≡_ {A = ℕ} 0 1 = cc in omega arith
-
-not-plant : NotThePlant ≡ TreeGrammar → ⊥
-not-plant e = let z : _≡_ {A = ℕ} 0 1 = cc in omega arith
 
 sorted-if : (b : Bool) (t : Tree) (u q : List ℕ) (r : Reason) (o : Out Tree) → o ≡ cond b (good t u) (bad r q) → (r ≡ TreeGrammar → ⊥) → Sorted t u o
 sorted-if true t u q r o e n = tree e

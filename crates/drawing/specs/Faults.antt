@@ -71,11 +71,21 @@ abbrev pub NoDigit : List ℕ → Type 0
 NoDigit [] = Unit {0}
 NoDigit (b ∷ s) = digit b ≡ false
 
+-- How far the text is in order: up to where a subtree is to begin, past a zero that begins a number, past a subtree, past the bracket
+-- that closes a pair, or past the semicolon.
+pub data Reached (N : Net) (m : ℕ) (front : List ℕ) : Type 0 where
+  at-subtree : (c : Around) → front ≡ before c → InOrder N m (halves c) → Reached N m front
+  past-zero : (c : Around) → front ≡ before c ++ 48 ∷ [] → InOrder N m (halves c) → Reached N m front
+  past-subtree : (c : Around) (t : Tree) → front ≡ before c ++ written t → InOrder N m (t ∷ halves c) → Reached N m front
+  past-pair : (c : Around) (t : Tree) → front ≡ before c ++ (written t ++ 41 ∷ []) → InOrder N m (t ∷ halves c) → Reached N m front
+  past-semicolon : (t : Tree) → front ≡ written t ++ 59 ∷ [] → InOrder N m (t ∷ []) → Reached N m front
+
 -- The bytes before the place begin a grammatical text; with the byte there, or the end there, they begin none.
-pub record OutsideGrammar (front rest : List ℕ) : Type 0 where
+pub record OutsideGrammar (N : Net) (m : ℕ) (front rest : List ℕ) : Type 0 where
   pub begins : (v : List ℕ) × (t : Tree) × Grammatical t (front ++ v)
   pub ended : rest ≡ [] → (t : Tree) → Grammatical t front → ⊥
   pub hopeless : (b : ℕ) (u v : List ℕ) (t : Tree) → rest ≡ b ∷ u → Grammatical t (front ++ b ∷ v) → ⊥
+  pub reached : Reached N m front
 
 -- A bracket is opened while 127 stand open.
 pub record BracketTooDeep (N : Net) (m : ℕ) (front rest : List ℕ) : Type 0 where
@@ -123,7 +133,7 @@ pub record NotDrawn (N : Net) (n m : ℕ) (front rest : List ℕ) : Type 0 where
 
 -- what each reason says of the bytes before its place and from it on; no other reason is given
 abbrev pub Fault : Net → ℕ → ℕ → List ℕ → List ℕ → Reason → Type 0
-Fault N n m front rest TreeGrammar = OutsideGrammar front rest
+Fault N n m front rest TreeGrammar = OutsideGrammar N m front rest
 Fault N n m front rest TooDeep = BracketTooDeep N m front rest
 Fault N n m front rest LeafNumber = NumberAtFault N m front rest
 Fault N n m front rest HalvesApart = LetterAtFault N m front rest

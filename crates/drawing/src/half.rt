@@ -6,6 +6,7 @@ ghost use lib.Dec.{eqb};
 ghost use lib.ListN.{length, getD};
 ghost use Rattle.std.specs.Orderings.{Decides};
 ghost use Rattle.drawing.specs.Halves.{All, ShareOnly, Meet, Spans, marks, either};
+use plant::limits::MAX_STATIONS;
 use plant::tree::Join;
 
 // Its node, the ends of its piece, and the stations of its piece.
@@ -14,7 +15,7 @@ pub struct Half {
     pub node: usize,
     pub left: usize,
     pub right: usize,
-    pub stations: [bool; 64],
+    pub stations: [bool; MAX_STATIONS],
 }
 
 impl Half {
@@ -24,7 +25,7 @@ impl Half {
             node: 0,
             left: 0,
             right: 0,
-            stations: [false; 64],
+            stations: [false; MAX_STATIONS],
         }
     }
 
@@ -102,22 +103,22 @@ fn is_either(x: usize, y: usize, i: usize) -> bool
 }
 
 // The set of two stations.
-pub fn two_stations(x: usize, y: usize) -> [bool; 64]
+pub fn two_stations(x: usize, y: usize) -> [bool; MAX_STATIONS]
     ensures { λ r. ⌜ r ≡ marks (either x y) ⌝ }
 {
-    let mut on = [false; 64];
-    for i in 0..64 {
+    let mut on = [false; MAX_STATIONS];
+    for i in 0..MAX_STATIONS {
         on[i] = is_either(x, y, i);
     }
     on
 }
 
 // The stations of both.
-pub fn union(a: &[bool; 64], b: &[bool; 64]) -> [bool; 64]
+pub fn union(a: &[bool; MAX_STATIONS], b: &[bool; MAX_STATIONS]) -> [bool; MAX_STATIONS]
     ensures { λ r. ⌜ r ≡ marks (λ i. getD (now (a .entry)) i false || getD (now (b .entry)) i false) ⌝ }
 {
-    let mut on = [false; 64];
-    for i in 0..64 {
+    let mut on = [false; MAX_STATIONS];
+    for i in 0..MAX_STATIONS {
         on[i] = a[i] || b[i];
     }
     on

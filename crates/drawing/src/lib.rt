@@ -11,6 +11,7 @@ mod sketch;
 mod text;
 
 use half::Half;
+use plant::limits::MAX_NODES;
 use plant::limits::STACK_ENTRIES;
 use plant::records::Line;
 use plant::refusal::Refusal;
@@ -22,7 +23,7 @@ use sketch::Sketch;
 use text::Text;
 
 // The nodes of the tree that the text draws, for a plant of so many stations and these lines.
-pub fn read(text: &[u8], stations: usize, lines: &[Line]) -> Result<Table<Node, 255>, Refusal>
+pub fn read(text: &[u8], stations: usize, lines: &[Line]) -> Result<Table<Node, MAX_NODES>, Refusal>
     requires text { ⌜ length (now text) ≤ 65535 ⌝ }
     requires stations { ⌜ stations ≤ 64 ⌝ }
     requires lines { ⌜ length (now lines) ≤ 128 ⌝ }
@@ -51,3 +52,6 @@ pub fn refused_at_first_fault() -> u8
 {
     0
 }
+
+#[cfg(test)]
+mod tests;

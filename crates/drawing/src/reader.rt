@@ -11,6 +11,7 @@ use crate::mark::Mark;
 use crate::sketch::Sketch;
 use crate::text::Text;
 use crate::text::refusal;
+use plant::limits::MAX_BRACKETS;
 use plant::refusal::Reason;
 use plant::refusal::Refusal;
 
@@ -52,7 +53,7 @@ impl<'s, 'l, 'h> Reader<'s, 'l, 'h> {
     }
 
     // A subtree in which at most `deep` brackets stand open at once.
-    fn subtree(&mut self, deep: u8) -> Result<(), Refusal>
+    fn subtree(&mut self, deep: usize) -> Result<(), Refusal>
         requires sound { ⌜ Sound (now self .text) ⌝ }
         requires ready { ⌜ Ready (now self .sketch) ⌝ }
         requires room { ⌜ length (waiting (now self .sketch)) + deep < room (now self .sketch .halves) ⌝ }
@@ -71,7 +72,7 @@ impl<'s, 'l, 'h> Reader<'s, 'l, 'h> {
     }
 
     // What follows an opening bracket: two subtrees with a comma between, a closing bracket, and the letter of the join.
-    fn pair(&mut self, deep: u8) -> Result<(), Refusal>
+    fn pair(&mut self, deep: usize) -> Result<(), Refusal>
         requires sound { ⌜ Sound (now self .text) ⌝ }
         requires ready { ⌜ Ready (now self .sketch) ⌝ }
         requires room { ⌜ length (waiting (now self .sketch)) + deep + 1 < room (now self .sketch .halves) ⌝ }
@@ -96,7 +97,7 @@ impl<'s, 'l, 'h> Reader<'s, 'l, 'h> {
         requires stations { ⌜ stations ≤ 64 ⌝ }
         ensures { λ r. ⌜ ReadsWhole 127 stations (now (self .entry)) (now (self .exit)) r ⌝ }
     {
-        self.subtree(127)?;
+        self.subtree(MAX_BRACKETS)?;
         self.text.expect(Mark::Semicolon)?;
         self.end()?;
         if !self.sketch.is_whole(stations) {

@@ -14,6 +14,8 @@ use crate::half::Half;
 use crate::half::all_marked;
 use crate::half::two_stations;
 use crate::half::union;
+use plant::limits::MAX_LINES;
+use plant::limits::MAX_NODES;
 use plant::records::Line;
 use plant::stack::Stack;
 use plant::table::Table;
@@ -24,15 +26,15 @@ use plant::tree::Shape;
 #[derive(Drop)]
 pub struct Sketch<'l, 'h> {
     pub lines: &'l [Line],
-    pub named: [bool; 128],
-    pub nodes: Table<Node, 255>,
+    pub named: [bool; MAX_LINES],
+    pub nodes: Table<Node, MAX_NODES>,
     pub halves: Stack<'h, Half>,
 }
 
-fn none_named() -> [bool; 128]
+fn none_named() -> [bool; MAX_LINES]
     ensures { λ r. ⌜ r ≡ replicate 128 false ⌝ }
 {
-    [false; 128]
+    [false; MAX_LINES]
 }
 
 impl<'l, 'h> Sketch<'l, 'h> {
