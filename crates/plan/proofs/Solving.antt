@@ -29,7 +29,7 @@ use Rattle.cells.specs.Tops.{Tops, cell-of}
 use Rattle.cells.specs.Best.{Best}
 use Rattle.plant.specs.Selections.{Fits}
 use Rattle.drawing.proofs.Numbering.{length-numbered}
-use Rattle.solver.specs.Sites.{tree}
+use Rattle.filling.specs.Sites.{tree}
 use Rattle.solver.specs.Solutions.{Solution, Tables, TooShort, Hopeless, Chosen, needs}
 use Rattle.plan.specs.declared.Plan.{Plan}
 use Rattle.plan.specs.Ledger.{Books, Ledger, blank, filled, books, view}

@@ -29,14 +29,14 @@ use Rattle.cells.proofs.Numbers.{cell-best}
 use Rattle.cells.proofs.Topping.{none-some, some-is}
 use Rattle.cells.proofs.Tracing.{traced}
 use Rattle.cells.proofs.Subtrees.{sub-once, sub-lines}
-use Rattle.solver.specs.declared.cell.Spot.{Spot}
-use Rattle.solver.specs.declared.offer.Offer.{Offer}
-use Rattle.solver.specs.Offers.{Offered, RootOffers, Leads, Leading, root, share-at}
+use Rattle.joins.specs.declared.cell.Spot.{Spot}
+use Rattle.picking.specs.declared.offer.Offer.{Offer}
+use Rattle.picking.specs.Offers.{Offered, RootOffers, Leads, Leading, root, share-at}
 use Rattle.solver.specs.Pending.{Traced, tree-at, Holds}
-use Rattle.solver.specs.Sites.{site, scores, tree, Ready, Filled, NodesFilled}
+use Rattle.filling.specs.Sites.{site, scores, tree, Ready, Filled, NodesFilled}
 use Rattle.solver.specs.Solutions.{needs, Tables}
 use Rattle.solver.proofs.Solving.{solved}
-use Rattle.solver.proofs.Standing.{whole, modest, few-records, few-sub, sub-stands, inner-in, root-tree, some-nodes, need-is}
+use Rattle.filling.proofs.Standing.{whole, modest, few-records, few-sub, sub-stands, inner-in, root-tree, some-nodes, need-is}
 
 module _ {F : Type 0} {f : Station → F} {g : Line → F} {nil : F} {plus : F → F → F} {above : F → F → Bool} {sz : F → ℕ} (laws : Laws f g nil plus above sz) (p : Plant) (ready : Ready p) where
   few-all : (length (p .stations .now) + length (p .lines .now)) * record-limit ≤ limit

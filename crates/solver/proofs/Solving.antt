@@ -23,9 +23,9 @@ use Rattle.cells.specs.Tops.{Tops}
 use Rattle.cells.specs.Traces.{Cells, first-of, second-of, Attains, Solved}
 use Rattle.cells.proofs.Subtrees.{Place, at-leaf, at-join, place}
 use Rattle.cells.proofs.Tracing.{series-attains, parallel-attains}
-use Rattle.solver.specs.Sites.{site, scores, tree, middle, Ready, Filled, HalvesAt}
+use Rattle.filling.specs.Sites.{site, scores, tree, middle, Ready, Filled, HalvesAt}
 use Rattle.solver.specs.Splits.{PassAttains}
-use Rattle.solver.proofs.Standing.{node-count, modest, few-sub, sub-stands}
+use Rattle.filling.proofs.Standing.{node-count, modest, few-sub, sub-stands}
 
 leaf-no-join : {X : Type 0} (j : Join) (a b : Tree) (k : ℕ) → leaf k ≡ joined j a b → X
 leaf-no-join Series a b k e = let z : _≡_ {A = ℕ} 0 1 = cc in absurd (omega arith)

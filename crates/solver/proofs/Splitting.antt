@@ -25,11 +25,11 @@ use Rattle.cells.specs.Tops.{Tops, cell-of, joined-of}
 use Rattle.cells.specs.Traces.{Attains, Leads}
 use Rattle.cells.proofs.Filling.{join-fair}
 use Rattle.cells.proofs.Topping.{none-some, joined-parts}
-use Rattle.solver.specs.declared.share.Share.{Share}
+use Rattle.joins.specs.declared.share.Share.{Share}
 use Rattle.solver.specs.declared.split.Split.{Split}
-use Rattle.solver.specs.Sites.{site, scores, tree, middle, Ready, Filled, HalvesAt}
+use Rattle.filling.specs.Sites.{site, scores, tree, middle, Ready, Filled, HalvesAt}
 use Rattle.solver.specs.Splits.{ways, PassAttains, FirstSplit, NoSplit}
-use Rattle.solver.proofs.Standing.{modest, few-sub}
+use Rattle.filling.proofs.Standing.{modest, few-sub}
 
 states : (m m′ : Bool) → (m ≡ m′) ⊎ (((m ≡ false) × (m′ ≡ true)) ⊎ ((m′ ≡ false) × (m ≡ true)))
 states true true = inl refl

@@ -29,15 +29,15 @@ use Rattle.cells.proofs.Cells.{leaf-parts}
 use Rattle.cells.proofs.Gluing.{series-has-middle, series-has-first, series-has-second, first-in-series, second-in-series, first-in-parallel, second-in-parallel}
 use Rattle.cells.proofs.Pieces.{left-on, right-on, inner-on, ends-differ, left-not-inner, right-not-inner}
 use Rattle.cells.proofs.Writing.{first-inside, second-inside, first-inside-parallel, second-inside-parallel}
-use Rattle.solver.specs.declared.cell.Spot.{Spot}
+use Rattle.joins.specs.declared.cell.Spot.{Spot}
 use Rattle.solver.specs.declared.split.Split.{Split}
 use Rattle.solver.specs.Pending.{settled, first-spot, second-spot, In, load, tree-at, leaves-at, size-at, Clear, Traced, Entry, Pending, Holds, with-ends}
-use Rattle.solver.specs.Sites.{site, scores, tree, middle, Ready, Filled, HalvesAt}
+use Rattle.filling.specs.Sites.{site, scores, tree, middle, Ready, Filled, HalvesAt}
 use Rattle.solver.specs.Splits.{PassAttains, FirstSplit}
 use Rattle.solver.proofs.Pendings.{in-new, load-more, pending-join, pending-leaf}
-use Rattle.solver.proofs.Standing.{sub-stands, whole, root-tree, root-in, some-nodes}
+use Rattle.filling.proofs.Standing.{sub-stands, whole, root-tree, root-in, some-nodes}
 use Rattle.cells.proofs.Counting.{whole-leaves}
-use Rattle.solver.specs.Offers.{root}
+use Rattle.picking.specs.Offers.{root}
 use lib.ListN.{replicate, length-replicate}
 
 off : (b : Bool) → (b ≡ true → ⊥) → b ≡ false

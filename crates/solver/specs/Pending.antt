@@ -19,9 +19,9 @@ use Rattle.cells.specs.Joins.{first-right, second-left}
 use Rattle.cells.specs.Subtrees.{sub, leaves}
 use Rattle.cells.specs.Tables.{memory}
 use Rattle.cells.specs.Traces.{Traces}
-use Rattle.solver.specs.declared.cell.Spot.{Spot}
+use Rattle.joins.specs.declared.cell.Spot.{Spot}
 use Rattle.solver.specs.declared.split.Split.{Split}
-use Rattle.solver.specs.Sites.{site, scores, tree}
+use Rattle.filling.specs.Sites.{site, scores, tree}
 use Rattle.solver.specs.Splits.{FirstSplit}
 
 -- the states after a join is settled: a series has a middle, a parallel join has none

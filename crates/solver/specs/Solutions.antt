@@ -23,7 +23,7 @@ use Rattle.cells.specs.Cell.{CellChoice}
 use Rattle.cells.specs.Subtrees.{sub}
 use Rattle.cells.specs.Tables.{place, need-of}
 use Rattle.cells.specs.Tops.{Tops, cell-of}
-use Rattle.solver.specs.Sites.{tree}
+use Rattle.filling.specs.Sites.{tree}
 
 -- the number of cells that the plant needs
 abbrev pub needs : Plant → ℕ

@@ -12,9 +12,9 @@ use Rattle.plant.specs.declared.tree.Join.{Join}
 use Rattle.cells.specs.Joins.{first-right, second-left, passes, between-figure, between-hours}
 use Rattle.cells.specs.Tables.{memory}
 use Rattle.cells.specs.Traces.{Attains, Leads}
-use Rattle.solver.specs.declared.share.Share.{Share}
+use Rattle.joins.specs.declared.share.Share.{Share}
 use Rattle.solver.specs.declared.split.Split.{Split}
-use Rattle.solver.specs.Sites.{site, scores, middle}
+use Rattle.filling.specs.Sites.{site, scores, middle}
 
 -- how many splits there are through a share, where the indices of the halves and its hours add up to the total
 abbrev pub ways : {F : Type 0} → Share F → ℕ → ℕ

@@ -1,10 +1,4 @@
-// The solver: cells over the tree of a plant, the pick at its root, and the trace down to the list.
-pub mod cell;
-pub mod fill;
-pub mod joins;
-pub mod offer;
-pub mod root;
-pub mod share;
+// The solver: the tables, the pick at their root, and the trace down to the list.
 pub mod solve;
 pub mod split;
 pub mod trace;

@@ -4,7 +4,7 @@ use Prim.Native.Nat.{_≤_}
 use native.Mathlib.Omega.{arith}
 use lib.ListN.{length}
 use Rattle.plant.specs.Selections.{among}
-use Rattle.solver.specs.Sites.{Ready}
+use Rattle.filling.specs.Sites.{Ready}
 use Rattle.solver.specs.Solutions.{needs}
 use Rattle.solver.proofs.Answering.{tables, hopeless, best}
 use Rattle.solver.proofs.solve.solve.Needs as need

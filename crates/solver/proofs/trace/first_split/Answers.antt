@@ -13,7 +13,7 @@ use Rattle.cells.specs.Joins.{first-right, second-left}
 use Rattle.cells.specs.Tops.{cell-of, joined-of}
 use Rattle.solver.specs.Splits.{PassAttains}
 use Rattle.solver.proofs.Splitting.{count-small, split-fair, state-none, found-first}
-use Rattle.solver.proofs.Standing.{row-room}
+use Rattle.filling.proofs.Standing.{row-room}
 use Rattle.solver.proofs.trace.first_split.Needs as need
 
 pub states-holds : need.states-holds

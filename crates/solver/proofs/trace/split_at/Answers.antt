@@ -6,7 +6,7 @@ use Rattle.std.proofs.shelf.Lists.{getD-read}
 use Rattle.std.specs.declared.option.Option.the-variants.{Some, None}
 use Rattle.cells.proofs.Topping.{none-some}
 use Rattle.solver.proofs.Solving.{split-some}
-use Rattle.solver.proofs.Standing.{row-room, few-nodes}
+use Rattle.filling.proofs.Standing.{row-room, few-nodes}
 use Rattle.solver.proofs.trace.split_at.Needs as need
 
 pub row-of-row-requires : need.row-of-row-requires

@@ -6,11 +6,11 @@ use lib.ListN.{length, length-append}
 use Rattle.plant.specs.Held.{held, room}
 use Rattle.plant.specs.Nodes.{joined}
 use Rattle.cells.specs.Subtrees.{sub, leaves}
-use Rattle.solver.specs.declared.cell.Spot.{Spot}
+use Rattle.joins.specs.declared.cell.Spot.{Spot}
 use Rattle.solver.specs.Pending.{first-spot, second-spot, Pending, load, size-at, leaves-at, tree-at}
-use Rattle.solver.specs.Sites.{tree}
+use Rattle.filling.specs.Sites.{tree}
 use Rattle.solver.proofs.Pendings.{in-new, load-more, stack-short, leaves-pos}
-use Rattle.solver.proofs.Standing.{join-at, leaf-at}
+use Rattle.filling.proofs.Standing.{join-at, leaf-at}
 use Rattle.solver.proofs.Steps.{step-leaf, step-join, step-less, leaves-halves, size-leaf}
 use Rattle.solver.proofs.trace.trace_all.Needs as need
 

@@ -1,6 +1,6 @@
 use mathlib.Core.Path.{_≡_}
 use Rattle.plant.specs.Held.{held, room, Whole}
-use Rattle.solver.specs.declared.cell.Spot.{Spot}
+use Rattle.joins.specs.declared.cell.Spot.{Spot}
 use Rattle.solver.specs.Pending.{Pending, load, size-at}
 use Rattle.solver.proofs.trace.trace_all.Given as given
 

@@ -1,0 +1,3 @@
+pub mod Standing
+pub mod Passes
+pub mod Nodes

@@ -1,0 +1,2 @@
+// The tables of a plant, filled node by node.
+pub mod fill;

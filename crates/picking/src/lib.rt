@@ -1,0 +1,3 @@
+// The pick at the root.
+pub mod offer;
+pub mod root;
