@@ -10,3 +10,7 @@ pub mod Writing
 pub mod Tracing
 pub mod Subtrees
 pub mod Rows
+pub mod Filling
+pub mod Counting
+pub mod Answering
+pub mod Numbers

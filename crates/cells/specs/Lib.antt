@@ -6,3 +6,5 @@ pub mod LineUp
 pub mod Traces
 pub mod Joins
 pub mod Tables
+pub mod Cell
+pub mod Best

@@ -9,3 +9,8 @@ abbrev pub sub : Tree → ℕ → Tree
 sub (leaf k) v = leaf k
 sub (series a b) v = cond (ltb v (size a)) (sub a v) (cond (ltb v (size a + size b)) (sub b (v - size a)) (series a b))
 sub (parallel a b) v = cond (ltb v (size a)) (sub a v) (cond (ltb v (size a + size b)) (sub b (v - size a)) (parallel a b))
+
+abbrev pub leaves : Tree → ℕ
+leaves (leaf k) = 1
+leaves (series a b) = leaves a + leaves b
+leaves (parallel a b) = leaves a + leaves b

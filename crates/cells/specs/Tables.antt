@@ -2,11 +2,11 @@
 use mathlib.Core.Path.{_≡_}
 use mathlib.Core.Bool.{Bool, true, false, cond}
 use mathlib.Core.List.{List}
-use Prim.Native.Nat.{ℕ, _+_, _-_, _*_, _<_, _≤_}
+use Prim.Native.Nat.{ℕ, _+_, _-_, _*_, _<_, _≤_, min}
 use lib.ListN.{length, getD, take, drop}
 use Rattle.std.specs.declared.option.Option.{Option}
 use Rattle.std.specs.declared.option.Option.the-variants.{Some, None}
-use Rattle.plant.specs.Trees.{Tree}
+use Rattle.plant.specs.Trees.{Tree, leaf, series, parallel, right}
 use Rattle.cells.specs.Tops.{Tops, cell-of}
 use Rattle.cells.specs.Inside.{Site, Scores, Choice}
 use Rattle.cells.specs.Subtrees.{sub}
@@ -34,7 +34,12 @@ abbrev pub Done : {F : Type 0} → F → (F → F → F) → (F → F → Bool) 
 Done nil plus above N P t budget cells v =
     (u : ℕ) → u < v → (l r : Bool) (h : ℕ) → h ≤ budget → Tops above (Choice nil plus N P (sub t u) l r h) (memory (budget + 1) cells u l r h)
 
--- the rows of the nodes below v are empty past their reach
-abbrev pub Reached : {F : Type 0} → ℕ → List (Option F) → List ℕ → ℕ → Type 0
-Reached budget cells reach v =
-    (u : ℕ) → u < v → (getD reach u 0 ≤ budget) × ((l r : Bool) (h : ℕ) → getD reach u 0 < h → h ≤ budget → memory (budget + 1) cells u l r h ≡ None)
+-- the hours of all inner stations of a piece
+abbrev pub most : Site → Tree → ℕ
+most N (leaf k) = 0
+most N (series a b) = most N a + most N b + N .hours (right (N .net) a)
+most N (parallel a b) = most N a + most N b + 0
+
+-- the reach of each node below v: those hours, or the budget where that is less
+abbrev pub Reached : Site → Tree → ℕ → List ℕ → ℕ → Type 0
+Reached N t budget reach v = (u : ℕ) → u < v → getD reach u 0 ≡ min budget (most N (sub t u))

@@ -4,3 +4,4 @@ pub mod Nodes
 pub mod Selections
 pub mod Held
 pub mod Tables
+pub mod Refusals

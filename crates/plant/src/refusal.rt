@@ -1,4 +1,6 @@
 // Why a call is refused.
+ghost use mathlib.Core.Path.{_≡_};
+ghost use Rattle.plant.specs.Refusals.{number as numberOf, part-number as partNumber};
 
 // The discriminant is the number of the refusal.
 #[derive(Clone, Copy, PartialEq, Eq, Debug)]
@@ -37,4 +39,20 @@ pub struct Refusal {
     pub reason: Reason,
     pub part: Part,
     pub place: u32,
+}
+
+impl Reason {
+    pub fn number(self) -> u8
+        ensures { λ r. ⌜ r ≡ numberOf self ⌝ }
+    {
+        self as u8
+    }
+}
+
+impl Part {
+    pub fn number(self) -> u8
+        ensures { λ r. ⌜ r ≡ partNumber self ⌝ }
+    {
+        self as u8
+    }
 }

@@ -1,11 +1,11 @@
 -- Bytes laid one after another.
 use mathlib.Core.Path.{_≡_, refl, sym, ap, subst, _∙_}
 use mathlib.Core.Logic.{_⊎_, inl, inr, ⊎-elim}
-use mathlib.Core.List.{List, [], _∷_, _++_, map}
+use mathlib.Core.List.{List, [], _∷_, _++_, map, append-assoc}
 use Prim.Native.Nat.{ℕ, suc, _+_, _*_, _/_, _%_, _^_, _≤_, _<_}
 use native.Mathlib.Omega.{arith}
-use lib.ListN.{length, getD, set, take}
-use Rattle.std.proofs.shelf.Lists.{length-set, length-append, length-map, map-append, take-more}
+use lib.ListN.{length, getD, set, take, drop}
+use Rattle.std.proofs.shelf.Lists.{length-set, length-append, length-map, map-append, take-more, take-more-set, drop-set-lt, take-append-drop}
 use Rattle.std.proofs.shelf.Digits.{digitsOf-step, length-digitsOf-le}
 use Rattle.std.proofs.shelf.Tests.{cases-eq}
 use Rattle.std.specs.shelf.Digits.{digitsOf}
@@ -66,3 +66,17 @@ shorter n h = sym (ap length (spelled-step n h) ∙ length-append (spelled (n / 
 
 pub wrote-more : (m m′ m″ : List ℕ) (p p′ p″ : ℕ) (xs : List ℕ) (i : ℕ) → i < length xs → Wrote m p (take i xs) m′ p′ → Wrote m′ p′ (getD xs i 0 ∷ []) m″ p″ → Wrote m p (take (i + 1) xs) m″ p″
 wrote-more m m′ m″ p p′ p″ xs i h a b = subst (λ bs. Wrote m p bs m″ p″) (sym (take-more xs i 0 h)) (then m m′ m″ p p′ p″ (take i xs) (getD xs i 0 ∷ []) a b)
+
+-- bytes that fit stand where they are laid
+laid-within : (m : List ℕ) (p : ℕ) (bs : List ℕ) → p + length bs ≤ length m → laid m p bs ≡ take p m ++ (bs ++ drop (p + length bs) m)
+laid-within m p [] h = sym (ap (λ n. take p m ++ drop n m) (omega arith) ∙ take-append-drop p m)
+laid-within m p (b ∷ bs) h =
+    let less : p < length m = omega arith in
+    let fits : p + 1 + length bs ≤ length (set m p b) = omega (arith, length-set m p b) in
+    laid-within (set m p b) (p + 1) bs fits
+    ∙ (λ i. take-more-set m p b less i ++ (bs ++ drop (p + 1 + length bs) (set m p b)))
+    ∙ append-assoc (take p m) (b ∷ []) (bs ++ drop (p + 1 + length bs) (set m p b))
+    ∙ ap (λ l. take p m ++ (b ∷ (bs ++ l))) (drop-set-lt (p + 1 + length bs) m p b (omega arith) ∙ ap (λ n. drop n m) (omega arith))
+
+pub laid-whole : (m bs : List ℕ) → length bs ≤ length m → laid m 0 bs ≡ bs ++ drop (length bs) m
+laid-whole m bs h = laid-within m 0 bs (omega arith) ∙ ap (λ n. bs ++ drop n m) (omega arith)

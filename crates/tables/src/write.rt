@@ -1,10 +1,10 @@
 // Text written into lent memory from a place on. What does not fit is not written, but counts: so a first writing into no memory
 // tells how much is needed.
 ghost use mathlib.Core.Path.{_≡_};
-ghost use mathlib.Core.List.{[], _∷_};
+ghost use mathlib.Core.List.{List, [], _∷_};
 ghost use Prim.Native.Nat.{ℕ, _+_, _*_, _^_, _<_, _≤_};
 ghost use lib.ListN.{length};
-ghost use Rattle.tables.specs.Laid.{Wrote};
+ghost use Rattle.tables.specs.Laid.{Wrote, Whole};
 ghost use Rattle.tables.specs.Numerals.{spelled, spelledℤ};
 
 // One byte. Each of these functions gives the place after what it wrote.
@@ -62,4 +62,26 @@ pub fn integer(out: &mut [u8], at: usize, z: i64) -> usize
     } else {
         number(out, at, z as u64)
     }
+}
+
+// What is printed whole or not at all.
+pub trait Printed {
+    ghost bytes: { Self → List ℕ };
+
+    // Writes it from the memory's start on, and gives its length.
+    fn print(&self, out: &mut [u8]) -> usize
+        ensures wrote { λ r. ⌜ Wrote (now (out .entry)) 0 (bytes (now (self .entry))) (now (out .exit)) r ⌝ }
+        ensures short { λ r. ⌜ r < 2 ^ 32 ⌝ };
+}
+
+// Prints into memory that is long enough, and leaves what is beyond the text; else gives the length that is needed.
+pub fn print_whole<P: Printed>(p: &P, out: &mut [u8]) -> Result<usize, u32>
+    ensures { λ r. ⌜ Whole (P·Printed .bytes (now (p .entry))) (now (out .entry)) (now (out .exit)) r ⌝ }
+{
+    let mut none = [0u8; 0];
+    let need = p.print(&mut none);
+    if out.len() < need {
+        return Err(need as u32);
+    }
+    Ok(p.print(out))
 }

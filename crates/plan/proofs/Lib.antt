@@ -1,0 +1,4 @@
+pub mod Steps
+pub mod Working
+pub mod Solving
+pub mod Printing

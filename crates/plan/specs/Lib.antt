@@ -1,0 +1,5 @@
+pub mod Replies
+pub mod Ledger
+pub mod Solves
+pub mod Issues
+pub mod Sheets
