@@ -62,12 +62,19 @@ digits-never : (s : List ℕ) (n : ℕ) (r : Reason) (q : List ℕ) {P : Type 0}
 digits-never [] n r q e = clash′ r q [] n e
 digits-never (b ∷ s) n r q e = by-bool (digit b) (λ d. digits-never s (n * 10 + (b - 48)) r q (rw d at e)) (λ d. clash′ r q (b ∷ s) n (rw d at e))
 
-zero-bad : (s : List ℕ) (r : Reason) (q : List ℕ) → after-zero s ≡ bad r q → (r ≡ TreeGrammar) × (s ≡ q)
+-- a digit that is refused
+record Digit-there (q : List ℕ) : Type 0 where
+  byte : ℕ
+  after : List ℕ
+  is : q ≡ byte ∷ after
+  digit : digit byte ≡ true
+
+zero-bad : (s : List ℕ) (r : Reason) (q : List ℕ) → after-zero s ≡ bad r q → (r ≡ TreeGrammar) × (s ≡ q) × Digit-there q
 zero-bad [] r q e = clash′ r q [] 0 e
-zero-bad (b ∷ s) r q e = by-bool (digit b) (λ d. same-bad TreeGrammar r (b ∷ s) q (rw d at e)) (λ d. clash′ r q (b ∷ s) 0 (rw d at e))
+zero-bad (b ∷ s) r q e = by-bool (digit b) (λ d. let p = same-bad TreeGrammar r (b ∷ s) q (rw d at e) in (p .0, p .1, record { byte = b; after = s; is = sym (p .1); digit = d })) (λ d. clash′ r q (b ∷ s) 0 (rw d at e))
 
 -- a number is refused at its first byte, or at a digit after a leading zero
-number-bad : (s : List ℕ) (r : Reason) (q : List ℕ) → number s ≡ bad r q → (r ≡ TreeGrammar) × ((s ≡ q) ⊎ (s ≡ 48 ∷ q))
+number-bad : (s : List ℕ) (r : Reason) (q : List ℕ) → number s ≡ bad r q → (r ≡ TreeGrammar) × ((s ≡ q) ⊎ ((s ≡ 48 ∷ q) × Digit-there q))
 number-bad [] r q e = let p = same-bad TreeGrammar r [] q e in (p .0, inl (p .1))
 number-bad (b ∷ s) r q e =
     by-bool (digit b)
@@ -78,7 +85,7 @@ number-bad (b ∷ s) r q e =
     let p = zero-bad s r q (rw z at f) in
     let low = is-digit b d .low in
     let is : b ≡ 48 = omega (arith, eqb-true (b - 48) 0 z) in
-    (p .0, inr ((λ i. is i ∷ p .1 i))))
+    (p .0, inr ((λ i. is i ∷ p .1 i), p .2)))
     (λ z. digits-never s (b - 48) r q (rw z at f)))
     (λ d. let p = same-bad TreeGrammar r (b ∷ s) q (rw d at e) in (p .0, inl (p .1)))
 
@@ -105,17 +112,17 @@ cond-bad false x s v q w r e = let p = same-bad w r v q e in (refl, p .0, p .1)
 
 -- ---- what stands before a place can be completed
 
-closing : Around → List ℕ
+unfoldable pub closing : Around → List ℕ
 closing outside = 59 ∷ []
 closing (in-first c) = 44 ∷ 48 ∷ 41 ∷ 115 ∷ closing c
 closing (in-second c a) = 41 ∷ 115 ∷ closing c
 
-fill : Around → Tree → Tree
+unfoldable pub fill : Around → Tree → Tree
 fill outside t = t
 fill (in-first c) t = fill c (series t (leaf 0))
 fill (in-second c a) t = fill c (series a t)
 
-fill-text : (c : Around) (t : Tree) → before c ++ (written t ++ closing c) ≡ written (fill c t) ++ 59 ∷ []
+pub fill-text : (c : Around) (t : Tree) → before c ++ (written t ++ closing c) ≡ written (fill c t) ++ 59 ∷ []
 unfolding closing fill written
 fill-text outside t = refl
 fill-text (in-first c) t =
@@ -147,7 +154,7 @@ begun c t x y e shallow room = (
 -- ---- the fault that is found
 
 pub data Found (N : Net) (n m : ℕ) (front q : List ℕ) (r : Reason) : Type 0 where
-  by-grammar : r ≡ TreeGrammar → (v : List ℕ) (t : Tree) → Grammatical t (front ++ v) → Reached N m front → Found N n m front q r
+  by-grammar : r ≡ TreeGrammar → (v : List ℕ) (t : Tree) → Grammatical t (front ++ v) → Reached N m front q → Found N n m front q r
   by-bracket : r ≡ TooDeep → BracketTooDeep N m front q → Found N n m front q r
   by-number : r ≡ LeafNumber → NumberAtFault N m front q → Found N n m front q r
   by-letter : r ≡ HalvesApart → LetterAtFault N m front q → Found N n m front q r
@@ -165,13 +172,13 @@ record Reading (N : Net) (m d : ℕ) (c : Around) (named : Lines) : Type 0 where
   depth : standing c + d ≡ 127
   shallow : most c ≤ 127
 
-in-grammar : (N : Net) (n m : ℕ) (c : Around) (text s q x y : List ℕ) (r : Reason) (t : Tree) → r ≡ TreeGrammar → text ≡ before c ++ (x ++ q) → written t ≡ x ++ y → most c ≤ 127 → standing c + deep t ≤ 127 → Reached N m (before c ++ x) → Place N n m text q r
+in-grammar : (N : Net) (n m : ℕ) (c : Around) (text s q x y : List ℕ) (r : Reason) (t : Tree) → r ≡ TreeGrammar → text ≡ before c ++ (x ++ q) → written t ≡ x ++ y → most c ≤ 127 → standing c + deep t ≤ 127 → Reached N m (before c ++ x) q → Place N n m text q r
 in-grammar N n m c text s q x y r t why e w shallow room so =
     let b = begun c t x y w shallow room in
     record { front = before c ++ x; split = e ∙ sym (append-assoc (before c) x q); found = by-grammar why (b .0) (b .1) (b .2) so }
 
 -- one tree more in order
-more-lines : (a : Tree) (ts : List Tree) (named : Lines) → ((k : ℕ) → named k ≡ ltb 0 (total ts k)) → (k : ℕ) → with-lines a named k ≡ ltb 0 (total (a ∷ ts) k)
+pub more-lines : (a : Tree) (ts : List Tree) (named : Lines) → ((k : ℕ) → named k ≡ ltb 0 (total ts k)) → (k : ℕ) → with-lines a named k ≡ ltb 0 (total (a ∷ ts) k)
 more-lines a ts named h k =
     ⊎-elim
     (λ p. rw (lt-ltb 0 (uses a k) p, lt-ltb 0 (uses a k + total ts k) (omega arith)) refl)
@@ -217,8 +224,8 @@ module _ (N : Net) (n m : ℕ) (ends : Ends N n m) (few : n ≤ 64) where
       (λ f.
       let p = number-bad s r q f in
       ⊎-elim
-      (λ at. in-grammar N n m c _ s q [] (spelled 0) r (leaf 0) (p .0) (ap (λ l. before c ++ l) at) (leaf-text 0) (w .shallow) (omega (arith, w .depth)) (at-subtree c (append-nil _) (w .order)))
-      (λ at. in-grammar N n m c _ s q (48 ∷ []) [] r (leaf 0) (p .0) (ap (λ l. before c ++ l) at) (leaf-text 0) (w .shallow) (omega (arith, w .depth)) (past-zero c refl (w .order)))
+      (λ at. in-grammar N n m c _ s q [] (spelled 0) r (leaf 0) (p .0) (ap (λ l. before c ++ l) at) (leaf-text 0) (w .shallow) (omega (arith, w .depth)) (at-subtree c (append-nil _) (w .shallow) (w .order)))
+      (λ at. in-grammar N n m c _ s q (48 ∷ []) [] r (leaf 0) (p .0) (ap (λ l. before c ++ l) (at .0)) (leaf-text 0) (w .shallow) (omega (arith, w .depth)) (past-zero c (at .1 .byte) (at .1 .after) refl (at .1 .is) (at .1 .digit) (w .shallow) (w .order)))
       (p .1))
       (λ k.
       let g = cond-bad (ltb (k .value) m && not (named (k .value))) (leaf (k .value)) (k .mid) s q LeafNumber r (k .next) in
@@ -250,19 +257,19 @@ module _ (N : Net) (n m : ℕ) (ends : Ends N n m) (few : n ≤ 64) where
   unfolding written
   comma-place d c named s r q a w x h why e =
       in-grammar N n m c _ s q (40 ∷ written a) (44 ∷ 48 ∷ 41 ∷ 115 ∷ []) r (series a (leaf 0)) why (ap (λ l. before c ++ 40 ∷ l) e) refl (w .shallow) (omega (arith, w .depth))
-      (past-subtree (in-first c) a (sym (append-assoc (before c) (40 ∷ []) (written a))) (first-order (suc d) c named a w x))
+      (past-subtree (in-first c) a (sym (append-assoc (before c) (40 ∷ []) (written a))) (omega (arith, w .depth, w .shallow)) (omega (arith, w .depth)) (first-order (suc d) c named a w x))
 
   close-place : (d : ℕ) (c : Around) (named : Lines) (s : List ℕ) (r : Reason) (q : List ℕ) (a b : Tree) → Reading N m (suc d) c named → Fits N m named a → Fits N m (with-lines a named) b → deep a ≤ d → deep b ≤ d → r ≡ TreeGrammar → s ≡ written a ++ 44 ∷ (written b ++ q) → Place N n m (before c ++ 40 ∷ s) q r
   unfolding written
   close-place d c named s r q a b w x y h g why e =
       in-grammar N n m c _ s q (40 ∷ (written a ++ 44 ∷ written b)) (41 ∷ 115 ∷ []) r (series a b) why (ap (λ l. before c ++ 40 ∷ l) (e ∙ sym (append-assoc (written a) (44 ∷ written b) q))) (ap (λ l. 40 ∷ l) (sym (append-assoc (written a) (44 ∷ written b) (41 ∷ 115 ∷ [])))) (w .shallow) (omega (arith, w .depth))
-      (past-subtree (in-second c a) b (simp append-assoc) (both-order (suc d) c named a b w x y))
+      (past-subtree (in-second c a) b (simp append-assoc) (omega (arith, w .depth, w .shallow)) (omega (arith, w .depth)) (both-order (suc d) c named a b w x y))
 
   letter-place : (d : ℕ) (c : Around) (named : Lines) (s : List ℕ) (r : Reason) (q : List ℕ) (a b : Tree) → Reading N m (suc d) c named → Fits N m named a → Fits N m (with-lines a named) b → deep a ≤ d → deep b ≤ d → r ≡ TreeGrammar → s ≡ written a ++ 44 ∷ (written b ++ 41 ∷ q) → Place N n m (before c ++ 40 ∷ s) q r
   unfolding written
   letter-place d c named s r q a b w x y h g why e =
       in-grammar N n m c _ s q (40 ∷ (written a ++ 44 ∷ (written b ++ 41 ∷ []))) (115 ∷ []) r (series a b) why (ap (λ l. before c ++ 40 ∷ l) (e ∙ simp append-assoc)) (simp append-assoc) (w .shallow) (omega (arith, w .depth))
-      (past-pair (in-second c a) b (simp append-assoc) (both-order (suc d) c named a b w x y))
+      (past-pair c a b refl (omega (arith, w .depth, w .shallow)) (omega (arith, w .depth)) (both-order (suc d) c named a b w x y))
 
   apart-place : (d : ℕ) (c : Around) (named : Lines) (s : List ℕ) (r : Reason) (q u : List ℕ) (j : Join) (a b : Tree) → Reading N m (suc d) c named → Fits N m named a → Fits N m (with-lines a named) b → deep a ≤ d → deep b ≤ d → r ≡ HalvesApart → meet N j a b ≡ false → s ≡ written a ++ 44 ∷ (written b ++ 41 ∷ q) → q ≡ letter-of j ∷ u → Place N n m (before c ++ 40 ∷ s) q r
   apart-place d c named s r q u j a b w x y h g why f e l =
@@ -356,7 +363,7 @@ module _ (N : Net) (n m : ℕ) (ends : Ends N n m) (few : n ≤ 64) where
   empty-place : (d : ℕ) (c : Around) (named : Lines) (r : Reason) (q : List ℕ) → Reading N m d c named → _≡_ {A = Out Tree} (bad TreeGrammar []) (bad r q) → Place N n m (before c ++ []) q r
   empty-place d c named r q w e =
       let p = same-bad {A = Tree} TreeGrammar r [] q e in
-      in-grammar N n m c _ [] q [] (spelled 0) r (leaf 0) (p .0) (ap (λ l. before c ++ l) (p .1)) (leaf-text 0) (w .shallow) (omega (arith, w .depth)) (at-subtree c (append-nil _) (w .order))
+      in-grammar N n m c _ [] q [] (spelled 0) r (leaf 0) (p .0) (ap (λ l. before c ++ l) (p .1)) (leaf-text 0) (w .shallow) (omega (arith, w .depth)) (at-subtree c (append-nil _) (w .shallow) (w .order))
 
   subtree-found : (d : ℕ) (c : Around) (named : Lines) (s : List ℕ) (r : Reason) (q : List ℕ) → Reading N m d c named → subtree d N m named s ≡ bad r q → Place N n m (before c ++ s) q r
   subtree-found zero c named [] r q w e = empty-place zero c named r q w e
@@ -386,7 +393,7 @@ module _ (N : Net) (n m : ℕ) (ends : Ends N n m) (few : n ≤ 64) where
       ⊎-elim
       (λ f.
       let p = lit-bad Semicolon (a .mid) r q f in
-      record { front = written t; split = x .text ∙ ap (λ l. written t ++ l) (p .1); found = by-grammar (p .0) (59 ∷ []) t (record { text = refl; depth = x .depth }) (past-subtree outside t refl (tree-order t (x .fits))) })
+      record { front = written t; split = x .text ∙ ap (λ l. written t ++ l) (p .1); found = by-grammar (p .0) (59 ∷ []) t (record { text = refl; depth = x .depth }) (past-subtree outside t refl (omega arith) (omega (arith, x .depth)) (tree-order t (x .fits))) })
       (λ p.
       let semi = x .text ∙ ap (λ l. written t ++ l) (lit-good Semicolon (a .mid) (p .value) (p .mid) (p .first)) in
       ⊎-elim
@@ -395,7 +402,7 @@ module _ (N : Net) (n m : ℕ) (ends : Ends N n m) (few : n ≤ 64) where
       record {
         front = written t ++ 59 ∷ [];
         split = semi ∙ ap (λ l. written t ++ 59 ∷ l) (z .1) ∙ sym (append-assoc (written t) (59 ∷ []) q);
-        found = by-grammar (z .0) [] t (record { text = append-nil _; depth = x .depth }) (past-semicolon t refl (tree-order t (x .fits)));
+        found = by-grammar (z .0) [] t (record { text = append-nil _; depth = x .depth }) (past-semicolon t refl (x .depth) (tree-order t (x .fits)));
       })
       (λ k.
       let end = stop-good (p .mid) (k .value) (k .mid) (k .first) in

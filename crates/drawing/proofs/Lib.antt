@@ -12,3 +12,4 @@ pub mod Verdicts
 pub mod Writing
 pub mod Looks
 pub mod Finding
+pub mod Standing

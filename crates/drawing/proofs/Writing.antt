@@ -18,7 +18,7 @@ use Rattle.drawing.specs.Grammar.{Out, good, bad, then, lit, letter, stop, num
 use Rattle.drawing.specs.Written.{spelled, written, deep}
 use Rattle.drawing.specs.Faults.{NoDigit}
 use Rattle.drawing.proofs.Bytes.{by-bool}
-use Rattle.drawing.proofs.Spelling.{leaf-number, halves-apart, not-plant, number-reads, Begins, begins}
+use Rattle.drawing.proofs.Spelling.{too-deep, leaf-number, halves-apart, not-plant, number-reads, Begins, begins}
 use Rattle.drawing.proofs.Building.{Ends, Among, Fits, uses-self, uses-joined, meets-series, meets-parallel, draws-complete}
 
 letter-reads : (j : Join) (s : List ℕ) → letter (letter-of j ∷ s) ≡ good j s
@@ -81,7 +81,7 @@ fits-second N m named j a b w = record {
   fresh = λ k h. or-from _ _ (le-ltb 0 (uses a k) (omega (arith, w .once k, uses-joined j a b k))) (w .fresh k (omega (arith, uses-joined j a b k)));
 }
 
-join-reads : (d : ℕ) (N : Net) (m : ℕ) (named : Lines) (j : Join) (a b : Tree) (u : List ℕ) → ((d : ℕ) (named : Lines) (u : List ℕ) → Fits N m named a → deep a ≤ d → NoDigit u → subtree d N m named (written a ++ u) ≡ good a u) → ((d : ℕ) (named : Lines) (u : List ℕ) → Fits N m named b → deep b ≤ d → NoDigit u → subtree d N m named (written b ++ u) ≡ good b u) → Fits N m named (joined j a b) → max (deep a) (deep b) + 1 ≤ d → subtree d N m named (written (joined j a b) ++ u) ≡ good (joined j a b) u
+pub join-reads : (d : ℕ) (N : Net) (m : ℕ) (named : Lines) (j : Join) (a b : Tree) (u : List ℕ) → ((d : ℕ) (named : Lines) (u : List ℕ) → Fits N m named a → deep a ≤ d → NoDigit u → subtree d N m named (written a ++ u) ≡ good a u) → ((d : ℕ) (named : Lines) (u : List ℕ) → Fits N m named b → deep b ≤ d → NoDigit u → subtree d N m named (written b ++ u) ≡ good b u) → Fits N m named (joined j a b) → max (deep a) (deep b) + 1 ≤ d → subtree d N m named (written (joined j a b) ++ u) ≡ good (joined j a b) u
 join-reads zero N m named j a b u first second w h = absurd (omega arith)
 join-reads (suc d) N m named j a b u first second w h =
     subtree-joined d N m named j a b u
@@ -133,28 +133,31 @@ first-other d N m named j a b u q r one = ap (subtree (suc d) N m named) (joined
 second-other : (d : ℕ) (N : Net) (m : ℕ) (named : Lines) (j : Join) (a b : Tree) (u q : List ℕ) (r : Reason) → subtree d N m named (written a ++ 44 ∷ (written b ++ 41 ∷ letter-of j ∷ u)) ≡ good a (44 ∷ (written b ++ 41 ∷ letter-of j ∷ u)) → subtree d N m (with-lines a named) (written b ++ 41 ∷ letter-of j ∷ u) ≡ bad r q → subtree (suc d) N m named (written (joined j a b) ++ u) ≡ bad r q
 second-other d N m named j a b u q r one two = ap (subtree (suc d) N m named) (joined-text j a b u) ∙ rw (one, two) refl
 
-join-sorted : (d : ℕ) (N : Net) (m : ℕ) (named : Lines) (j : Join) (a b : Tree) (u : List ℕ) → ((d : ℕ) (named : Lines) (u : List ℕ) → deep a ≤ d → NoDigit u → Sorted a u (subtree d N m named (written a ++ u))) → ((d : ℕ) (named : Lines) (u : List ℕ) → deep b ≤ d → NoDigit u → Sorted b u (subtree d N m named (written b ++ u))) → max (deep a) (deep b) + 1 ≤ d → Sorted (joined j a b) u (subtree d N m named (written (joined j a b) ++ u))
-join-sorted zero N m named j a b u first second h = absurd (omega arith)
-join-sorted (suc d) N m named j a b u first second h =
-    elim (first d named (44 ∷ (written b ++ 41 ∷ letter-of j ∷ u)) (omega arith) refl) [
+too-many : (N : Net) (m : ℕ) (named : Lines) (j : Join) (a b : Tree) (u : List ℕ) → Sorted (joined j a b) u (subtree zero N m named (written (joined j a b) ++ u))
+too-many N m named j a b u = other TooDeep _ (ap (subtree zero N m named) (joined-text j a b u)) too-deep
+
+join-sorted : (d : ℕ) (N : Net) (m : ℕ) (named : Lines) (j : Join) (a b : Tree) (u : List ℕ) → ((d : ℕ) (named : Lines) (u : List ℕ) → NoDigit u → Sorted a u (subtree d N m named (written a ++ u))) → ((d : ℕ) (named : Lines) (u : List ℕ) → NoDigit u → Sorted b u (subtree d N m named (written b ++ u))) → Sorted (joined j a b) u (subtree d N m named (written (joined j a b) ++ u))
+join-sorted zero N m named j a b u first second = too-many N m named j a b u
+join-sorted (suc d) N m named j a b u first second =
+    elim (first d named (44 ∷ (written b ++ 41 ∷ letter-of j ∷ u)) refl) [
       | other r q e n ↦ other r q (first-other d N m named j a b u q r e) n
       | tree one ↦
-          elim (second d (with-lines a named) (41 ∷ letter-of j ∷ u) (omega arith) refl) [
+          elim (second d (with-lines a named) (41 ∷ letter-of j ∷ u) refl) [
             | other r q e n ↦ other r q (second-other d N m named j a b u q r one e) n
             | tree two ↦ sorted-if (meet N j a b) _ u _ HalvesApart _ (subtree-joined d N m named j a b u one two) halves-apart
           ]
     ]
 
-pub sorted : (N : Net) (m : ℕ) (t : Tree) (d : ℕ) (named : Lines) (u : List ℕ) → deep t ≤ d → NoDigit u → Sorted t u (subtree d N m named (written t ++ u))
-sorted N m (leaf k) d named u h stop = sorted-if (ltb k m && not (named k)) (leaf k) u _ LeafNumber _ (ap (λ l. subtree d N m named (l ++ u)) (leaf-text k) ∙ subtree-leaf d N m k named u stop) leaf-number
-sorted N m (series a b) d named u h stop = join-sorted d N m named Series a b u (sorted N m a) (sorted N m b) h
-sorted N m (parallel a b) d named u h stop = join-sorted d N m named Parallel a b u (sorted N m a) (sorted N m b) h
+pub sorted : (N : Net) (m : ℕ) (t : Tree) (d : ℕ) (named : Lines) (u : List ℕ) → NoDigit u → Sorted t u (subtree d N m named (written t ++ u))
+sorted N m (leaf k) d named u stop = sorted-if (ltb k m && not (named k)) (leaf k) u _ LeafNumber _ (ap (λ l. subtree d N m named (l ++ u)) (leaf-text k) ∙ subtree-leaf d N m k named u stop) leaf-number
+sorted N m (series a b) d named u stop = join-sorted d N m named Series a b u (sorted N m a) (sorted N m b)
+sorted N m (parallel a b) d named u stop = join-sorted d N m named Parallel a b u (sorted N m a) (sorted N m b)
 
-pub whole-sorted : (d : ℕ) (N : Net) (n m : ℕ) (s : List ℕ) (t : Tree) → s ≡ written t ++ 59 ∷ [] → deep t ≤ d → Sorted t [] (whole d N n m s)
-whole-sorted d N n m s t e h =
+pub whole-sorted : (d : ℕ) (N : Net) (n m : ℕ) (s : List ℕ) (t : Tree) → s ≡ written t ++ 59 ∷ [] → Sorted t [] (whole d N n m s)
+whole-sorted d N n m s t e =
     let P : List ℕ → Type 0 = λ x. Sorted t [] (whole d N n m x) in
     subst P (sym e) (
-    elim (sorted N m t d none-named (59 ∷ []) h refl) [
+    elim (sorted N m t d none-named (59 ∷ []) refl) [
       | other r q f x ↦ other r q (ap (λ o. then o (ending N n m)) f) x
       | tree f ↦ sorted-if (complete N n m t) t [] [] NotThePlant _ (ap (λ o. then o (ending N n m)) f ∙ ending-reads N n m t) not-plant
     ])

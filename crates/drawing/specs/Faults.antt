@@ -3,7 +3,7 @@ use mathlib.Core.Path.{_≡_}
 use mathlib.Core.List.{List, [], _∷_, _++_}
 use mathlib.Core.Logic.{_⊎_}
 use Prim.Native.Nat.{ℕ, _+_, _≤_, _<_, max}
-use mathlib.Core.Bool.{false}
+use mathlib.Core.Bool.{true, false}
 use lib.ListN.{length, take, drop}
 use Rattle.plant.specs.declared.records.Line.{Line}
 use Rattle.plant.specs.declared.refusal.Reason.{Reason}
@@ -71,21 +71,21 @@ abbrev pub NoDigit : List ℕ → Type 0
 NoDigit [] = Unit {0}
 NoDigit (b ∷ s) = digit b ≡ false
 
--- How far the text is in order: up to where a subtree is to begin, past a zero that begins a number, past a subtree, past the bracket
+-- How far the text is in order: up to where a subtree is to begin, past a zero before another digit, past a subtree, past the bracket
 -- that closes a pair, or past the semicolon.
-pub data Reached (N : Net) (m : ℕ) (front : List ℕ) : Type 0 where
-  at-subtree : (c : Around) → front ≡ before c → InOrder N m (halves c) → Reached N m front
-  past-zero : (c : Around) → front ≡ before c ++ 48 ∷ [] → InOrder N m (halves c) → Reached N m front
-  past-subtree : (c : Around) (t : Tree) → front ≡ before c ++ written t → InOrder N m (t ∷ halves c) → Reached N m front
-  past-pair : (c : Around) (t : Tree) → front ≡ before c ++ (written t ++ 41 ∷ []) → InOrder N m (t ∷ halves c) → Reached N m front
-  past-semicolon : (t : Tree) → front ≡ written t ++ 59 ∷ [] → InOrder N m (t ∷ []) → Reached N m front
+pub data Reached (N : Net) (m : ℕ) (front rest : List ℕ) : Type 0 where
+  at-subtree : (c : Around) → front ≡ before c → most c ≤ 127 → InOrder N m (halves c) → Reached N m front rest
+  past-zero : (c : Around) (b : ℕ) (u : List ℕ) → front ≡ before c ++ 48 ∷ [] → rest ≡ b ∷ u → digit b ≡ true → most c ≤ 127 → InOrder N m (halves c) → Reached N m front rest
+  past-subtree : (c : Around) (t : Tree) → front ≡ before c ++ written t → most c ≤ 127 → standing c + deep t ≤ 127 → InOrder N m (t ∷ halves c) → Reached N m front rest
+  past-pair : (c : Around) (a b : Tree) → front ≡ before c ++ 40 ∷ (written a ++ 44 ∷ (written b ++ 41 ∷ [])) → most (in-second c a) ≤ 127 → standing c + 1 + deep b ≤ 127 → InOrder N m (b ∷ a ∷ halves c) → Reached N m front rest
+  past-semicolon : (t : Tree) → front ≡ written t ++ 59 ∷ [] → deep t ≤ 127 → InOrder N m (t ∷ []) → Reached N m front rest
 
--- The bytes before the place begin a grammatical text; with the byte there, or the end there, they begin none.
+-- The bytes before the place begin a grammatical text. With the byte there, or the end there, they begin no tree's text, however deep.
 pub record OutsideGrammar (N : Net) (m : ℕ) (front rest : List ℕ) : Type 0 where
   pub begins : (v : List ℕ) × (t : Tree) × Grammatical t (front ++ v)
-  pub ended : rest ≡ [] → (t : Tree) → Grammatical t front → ⊥
-  pub hopeless : (b : ℕ) (u v : List ℕ) (t : Tree) → rest ≡ b ∷ u → Grammatical t (front ++ b ∷ v) → ⊥
-  pub reached : Reached N m front
+  pub ended : rest ≡ [] → (t : Tree) → front ≡ written t ++ 59 ∷ [] → ⊥
+  pub hopeless : (b : ℕ) (u v : List ℕ) (t : Tree) → rest ≡ b ∷ u → front ++ b ∷ v ≡ written t ++ 59 ∷ [] → ⊥
+  pub reached : Reached N m front rest
 
 -- A bracket is opened while 127 stand open.
 pub record BracketTooDeep (N : Net) (m : ℕ) (front rest : List ℕ) : Type 0 where

@@ -66,6 +66,7 @@ pub record AcceptedWhenWritten : Type 0 where
   pub all-written : (n : ℕ) (ls : List Line) (s : List ℕ) (t : Tree) → n ≤ 64 → Joins n ls → Writes n ls s t → verdict n ls s ≡ accepted t
   pub one-tree : (n : ℕ) (ls : List Line) (s : List ℕ) (t u : Tree) → n ≤ 64 → Joins n ls → Writes n ls s t → Writes n ls s u → t ≡ u
 
--- A text that is not accepted is refused at its first fault.
-abbrev pub RefusedAtFirstFault : Type 0
-RefusedAtFirstFault = (n : ℕ) (ls : List Line) (s : List ℕ) (r : Reason) (place : ℕ) → n ≤ 64 → Joins n ls → verdict n ls s ≡ refused r place → FirstFault n ls s place r
+-- A text is refused for a reason at a place exactly when its first fault is that one. So no text has two.
+pub record RefusedAtFirstFault : Type 0 where
+  pub only-first : (n : ℕ) (ls : List Line) (s : List ℕ) (r : Reason) (place : ℕ) → n ≤ 64 → Joins n ls → verdict n ls s ≡ refused r place → FirstFault n ls s place r
+  pub all-first : (n : ℕ) (ls : List Line) (s : List ℕ) (r : Reason) (place : ℕ) → n ≤ 64 → Joins n ls → FirstFault n ls s place r → verdict n ls s ≡ refused r place

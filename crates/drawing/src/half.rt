@@ -3,7 +3,7 @@ ghost use mathlib.Core.Path.{_≡_};
 ghost use mathlib.Core.Bool.{Bool, true, false, _||_};
 ghost use Prim.Native.Nat.{ℕ, _<_, _≤_};
 ghost use lib.Dec.{eqb};
-ghost use lib.ListN.{length, getD};
+ghost use lib.ListN.{length, getD, replicate};
 ghost use Rattle.std.specs.Orderings.{Decides};
 ghost use Rattle.drawing.specs.Halves.{All, ShareOnly, Meet, Spans, marks, either};
 use plant::limits::MAX_STATIONS;
@@ -20,7 +20,9 @@ pub struct Half {
 
 impl Half {
     // What stands where no half does.
-    pub fn none() -> Half {
+    pub fn none() -> Half
+        ensures { λ r. ⌜ r ≡ record { node = 0; left = 0; right = 0; stations = replicate 64 false } ⌝ }
+    {
         Half {
             node: 0,
             left: 0,

@@ -46,7 +46,7 @@ pub fn accepted_when_written() -> u8
     0
 }
 
-// A text that is not accepted is refused at its first fault, and everything before it is in order.
+// A text is refused for a reason at a place exactly when its first fault is that one, with everything before it in order.
 pub fn refused_at_first_fault() -> u8
     ensures { λ _. ⌜ RefusedAtFirstFault ⌝ }
 {

@@ -26,7 +26,7 @@ mod truth;
 
 const SEED: u64 = 20_261_117;
 
-const PLANTS: usize = 600;
+const PLANTS: usize = 20_000;
 
 const CELLS: usize = 4_000;
 
@@ -162,8 +162,8 @@ fn run(heap: Global, seed: u64, plants: usize) -> Result<Tally, AnyError> {
     let mut urgent_cells = vec![in heap; None; CELLS]?;
     let mut plan = Plan::blank();
     for _ in 0..plants {
-        let steps = random.below(11);
-        let sample = draw(heap, &mut random, 7, steps)?;
+        let steps = random.below(12);
+        let sample = draw(heap, &mut random, 8, steps)?;
         let stations = stations(heap, &sample)?;
         let lines = lines(heap, &sample)?;
         count(&mut tally.plants);
