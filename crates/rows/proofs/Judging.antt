@@ -1,0 +1,123 @@
+-- Which rows a kind of table takes, and which rule another row breaks.
+use mathlib.Core.Path.{_≡_, refl, sym, ap, subst, _∙_}
+use mathlib.Core.Logic.{_⊎_, inl, inr, ⊎-elim}
+use mathlib.Core.Bool.{Bool, true, false, cond}
+use mathlib.Core.List.{List, [], _∷_, map}
+use Prim.Native.Nat.{ℕ, _+_, _≤_, _<_}
+use native.Mathlib.Omega.{arith}
+use lib.Dec.{eqb, ltb}
+use lib.ListN.{length, getD}
+use Rattle.std.proofs.shelf.Lists.{length-map}
+use Rattle.std.proofs.shelf.Tests.{eqb-true, eqb-false, eq-eqb, le-ltb, ltb-true, ltb-false, cond-both}
+use Rattle.std.specs.declared.option.Option.{Option}
+use Rattle.std.specs.declared.option.Option.the-variants.{Some, None}
+use Rattle.std.specs.declared.result.Result.{Result}
+use Rattle.std.specs.declared.result.Result.the-variants.{Ok, Err}
+use Rattle.plant.specs.declared.refusal.Reason.{Reason}
+use Rattle.plant.specs.declared.refusal.Reason.the-variants as R
+use Rattle.tables.specs.Laws.{meaning}
+use Rattle.tables.specs.Numerals.{spelled, numeral}
+use Rattle.tables.proofs.Spelling.{spelled-law}
+use Rattle.rows.specs.Faults.{Counted, Formed, Numbered, Joins, Breaks}
+use Rattle.rows.specs.Verdict.{Rules}
+use Rattle.rows.specs.Written.{Form, Fair}
+
+-- what becomes of a row whose fields are right
+abbrev pub settled : {A : Type 0} → Bool → Bool → A → Result A Reason
+settled numbered joined a = cond numbered (cond joined (Ok a) (Err R.LineEnds)) (Err R.RowNumber)
+
+-- the rules judge what the form writes: one row is read from its fields and written to them
+pub record Judges {A : Type 0} (U : Rules A) (F : Form A) : Type 0 where
+  pub body : ℕ → List (List ℕ) → Result A Reason
+  pub judge-is : (k : ℕ) (ps : List (List ℕ)) → U .judge k ps ≡ cond (ltb (F .most) k) (Err R.RowCount) (cond (eqb (length ps) (length (F .head))) (body k ps) (Err R.FieldCount))
+  pub least-is : U .least ≡ F .least
+  pub joined : A → Bool
+  pub joined-true : (a : A) → joined a ≡ true → F .Joined a
+  pub true-joined : (a : A) → F .Joined a → joined a ≡ true
+  pub first-cell : (i : ℕ) (a : A) → getD (F .cells i a) 0 [] ≡ spelled i
+  pub columns : (i : ℕ) (a : A) → length (F .cells i a) ≡ length (F .head)
+  pub written : (k i : ℕ) (a : A) (ps : List (List ℕ)) → map meaning ps ≡ F .cells i a → F .InRange a → body k ps ≡ settled (eqb (i + 1) k) (joined a) a
+  pub formed : (k : ℕ) (ps : List (List ℕ)) → length ps ≡ length (F .head) → (body k ps ≡ Err R.FieldForm) ⊎ Formed F (map meaning ps)
+  pub heads-true : (ps : List (List ℕ)) → U .heads ps ≡ true → map meaning ps ≡ F .head
+  pub true-heads : (ps : List (List ℕ)) → map meaning ps ≡ F .head → U .heads ps ≡ true
+
+-- the fields are those of the k-th row
+pub record Takes {A : Type 0} (F : Form A) (k : ℕ) (cs : List (List ℕ)) (a : A) : Type 0 where
+  pub is : cs ≡ F .cells k a
+  pub fair : Fair F a
+  pub few : k < F .most
+
+-- what an answer says of the k-th row, counted from 0
+abbrev pub Judged : {A : Type 0} → Form A → ℕ → List (List ℕ) → Result A Reason → Type 0
+Judged F k cs (Ok a) = Takes F k cs a
+Judged F k cs (Err r) = Breaks F k cs r
+
+clash : {P : Type 0} → _≡_ {A = ℕ} 0 1 → P
+clash e = absurd (omega arith)
+
+not-form : {A : Type 0} (p q : Bool) (a : A) → settled p q a ≡ Err R.FieldForm → ⊥
+not-form true true a e = let z : _≡_ {A = ℕ} 0 1 = cc in clash z
+not-form true false a e = let z : _≡_ {A = ℕ} 0 1 = cc in clash z
+not-form false q a e = let z : _≡_ {A = ℕ} 0 1 = cc in clash z
+
+not-ends : {A : Type 0} (p : Bool) (a : A) → settled p true a ≡ Err R.LineEnds → ⊥
+not-ends true a e = let z : _≡_ {A = ℕ} 0 1 = cc in clash z
+not-ends false a e = let z : _≡_ {A = ℕ} 0 1 = cc in clash z
+
+same-number : (i k : ℕ) → spelled i ≡ spelled k → i ≡ k
+same-number i k e =
+    let both : Some i ≡ Some k = sym (spelled-law .written i) ∙ ap numeral e ∙ spelled-law .written k in
+    cc
+
+module _ {A : Type 0} (U : Rules A) (F : Form A) (J : Judges U F) where
+  -- fields that are right
+  settled-says : (k : ℕ) (ps : List (List ℕ)) (i : ℕ) (a : A) → k < F .most → F .InRange a → map meaning ps ≡ F .cells i a → Judged F k (map meaning ps) (settled (eqb (i + 1) (k + 1)) (J .joined a) a)
+  settled-says k ps i a few range e =
+      let counted : Counted F (map meaning ps) = ap length e ∙ J .columns i a in
+      let formed : Formed F (map meaning ps) = (i, a, range, e) in
+      let first : getD (map meaning ps) 0 [] ≡ spelled i = ap (λ l. getD l 0 []) e ∙ J .first-cell i a in
+      cond-both (eqb (i + 1) (k + 1)) _ _ (Judged F k (map meaning ps))
+      (λ p.
+      let same : i + 1 ≡ k + 1 = eqb-true (i + 1) (k + 1) p in
+      let at : i ≡ k = omega arith in
+      cond-both (J .joined a) _ _ (Judged F k (map meaning ps))
+      (λ q. record { is = e ∙ ap (λ x. F .cells x a) at; fair = (range, J .joined-true a q); few = few })
+      (λ q. (
+        few,
+        counted,
+        formed,
+        first ∙ ap spelled at,
+        λ o.
+            let here : J .body (k + 1) ps ≡ Err R.LineEnds = J .written (k + 1) i a ps e range ∙ (λ x. settled (p x) (q x) a) in
+            let there : J .body (k + 1) ps ≡ settled (eqb (o .0 + 1) (k + 1)) true (o .1) = J .written (k + 1) (o .0) (o .1) ps (o .4) (o .2) ∙ ap (λ x. settled (eqb (o .0 + 1) (k + 1)) x (o .1)) (J .true-joined (o .1) (o .3)) in
+            not-ends (eqb (o .0 + 1) (k + 1)) (o .1) (sym there ∙ here),
+      )))
+      (λ p. (few, counted, formed, λ numbered. eqb-false (i + 1) (k + 1) p (ap (λ x. x + 1) (same-number i k (sym first ∙ numbered)))))
+
+  body-says : (k : ℕ) (ps : List (List ℕ)) → k < F .most → length ps ≡ length (F .head) → Judged F k (map meaning ps) (J .body (k + 1) ps)
+  body-says k ps few n =
+      ⊎-elim
+      (λ e. subst (Judged F k (map meaning ps)) (sym e) (few, length-map ps meaning ∙ n, λ o. not-form (eqb (o .0 + 1) (k + 1)) (J .joined (o .1)) (o .1) (sym (J .written (k + 1) (o .0) (o .1) ps (o .3) (o .2)) ∙ e)))
+      (λ o. subst (Judged F k (map meaning ps)) (sym (J .written (k + 1) (o .0) (o .1) ps (o .3) (o .2))) (settled-says k ps (o .0) (o .1) few (o .2) (o .3)))
+      (J .formed (k + 1) ps n)
+
+  pub judge-says : (k : ℕ) (ps : List (List ℕ)) → Judged F k (map meaning ps) (U .judge (k + 1) ps)
+  judge-says k ps =
+      subst (Judged F k (map meaning ps)) (sym (J .judge-is (k + 1) ps))
+      (cond-both (ltb (F .most) (k + 1)) _ _ (Judged F k (map meaning ps))
+      (λ p. let lt = ltb-true (F .most) (k + 1) p in omega arith)
+      (λ p.
+      let le = ltb-false (F .most) (k + 1) p in
+      let few : k < F .most = omega arith in
+      cond-both (eqb (length ps) (length (F .head))) _ _ (Judged F k (map meaning ps))
+      (λ q. body-says k ps few (eqb-true (length ps) (length (F .head)) q))
+      (λ q. (few, λ n. eqb-false (length ps) (length (F .head)) q (sym (length-map ps meaning) ∙ n)))))
+
+  pub takes-judged : (k : ℕ) (ps : List (List ℕ)) (a : A) → Takes F k (map meaning ps) a → U .judge (k + 1) ps ≡ Ok a
+  takes-judged k ps a t =
+      let few : k + 1 ≤ F .most = omega (arith, t .few) in
+      let n : length ps ≡ length (F .head) = sym (length-map ps meaning) ∙ ap length (t .is) ∙ J .columns k a in
+      J .judge-is (k + 1) ps
+      ∙ (λ x. cond (le-ltb (F .most) (k + 1) few x) (Err R.RowCount) (cond (eq-eqb (length ps) (length (F .head)) n x) (J .body (k + 1) ps) (Err R.FieldCount)))
+      ∙ J .written (k + 1) k a ps (t .is) (t .fair .0)
+      ∙ (λ x. settled (eq-eqb (k + 1) (k + 1) refl x) (J .true-joined a (t .fair .1) x) a)
