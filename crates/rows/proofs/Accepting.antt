@@ -21,9 +21,13 @@ use Rattle.tables.specs.Written as W
 use Rattle.tables.proofs.Complete.{complete, means, reads}
 use Rattle.rows.specs.Faults.{RowAtFault, TooFew, FirstFault}
 use Rattle.rows.specs.Laws.{AcceptedWhenWritten, RefusedAtFirstFault}
+use Rattle.rows.specs.Lines.{lines}
+use Rattle.rows.specs.Stations.{stations}
 use Rattle.rows.specs.Verdict.{Rules, Verdict, table, refused, verdict, first, after, judged}
-use Rattle.rows.specs.Written.{Form, Fair, Lists, Writes, cells-from, meant}
+use Rattle.rows.specs.Written.{Form, Fair, Lists, Writes, cells-from, meant, station-form, line-form}
 use Rattle.rows.proofs.Judging.{Judges, Judged, Takes, judge-says, takes-judged}
+use Rattle.rows.proofs.LineForm as L
+use Rattle.rows.proofs.StationForm as S
 
 clash : {P : Type 0} → _≡_ {A = ℕ} 0 1 → P
 clash e = absurd (omega arith)
@@ -158,7 +162,7 @@ module _ {A : Type 0} (U : Rules A) (F : Form A) (J : Judges U F) where
 
   -- ---- the two laws
 
-  pub accepted-when-written : AcceptedWhenWritten U F
+  accepted-when-written : AcceptedWhenWritten U F
   accepted-when-written =
       record {
         only-written = λ s rows e. subst (Says s) e (says s);
@@ -166,5 +170,17 @@ module _ {A : Type 0} (U : Rules A) (F : Form A) (J : Judges U F) where
         one-writing = λ s rows others v w. same-table rows others (sym (all-written s rows v) ∙ all-written s others w);
       }
 
-  pub refused-at-first-fault : RefusedAtFirstFault U F
+  refused-at-first-fault : RefusedAtFirstFault U F
   refused-at-first-fault s r place e = subst (Says s) e (says s)
+
+pub stations-accepted : AcceptedWhenWritten stations station-form
+stations-accepted = accepted-when-written stations station-form S.judges
+
+pub lines-accepted : (n : ℕ) → AcceptedWhenWritten (lines n) (line-form n)
+lines-accepted n = accepted-when-written (lines n) (line-form n) (L.judges n)
+
+pub stations-refused : RefusedAtFirstFault stations station-form
+stations-refused = refused-at-first-fault stations station-form S.judges
+
+pub lines-refused : (n : ℕ) → RefusedAtFirstFault (lines n) (line-form n)
+lines-refused n = refused-at-first-fault (lines n) (line-form n) (L.judges n)

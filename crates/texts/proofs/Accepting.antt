@@ -1,0 +1,100 @@
+-- Three texts are accepted exactly when they are the writing of a plant, and refused ones have their first fault where the verdict says.
+use mathlib.Core.Path.{_≡_, refl, sym, ap, subst, _∙_}
+use mathlib.Core.Bool.{cond}
+use mathlib.Core.List.{List}
+use Prim.Native.Nat.{ℕ, _≤_, _<_}
+use lib.Dec.{ltb}
+use lib.ListN.{length}
+use Rattle.std.proofs.shelf.Tests.{lt-ltb, le-ltb, ltb-true, ltb-false, cond-both}
+use Rattle.plant.specs.declared.records.Line.{Line}
+use Rattle.plant.specs.declared.records.Station.{Station}
+use Rattle.plant.specs.declared.refusal.Part.{Part}
+use Rattle.plant.specs.declared.refusal.Refusal.{Refusal}
+use Rattle.plant.specs.Trees.{Tree}
+use Rattle.rows.specs.Lines.{lines}
+use Rattle.rows.specs.Stations.{stations}
+use Rattle.rows.specs.Verdict as Rows
+use Rattle.rows.specs.Written.{Writes, station-form, line-form}
+use Rattle.rows.proofs.Accepting.{stations-accepted, lines-accepted, stations-refused, lines-refused}
+use Rattle.rows.proofs.Ranges.{lines-ranged}
+use Rattle.drawing.specs.Verdict as Drawing
+use Rattle.drawing.proofs.Verdicts as Drawn
+use Rattle.texts.specs.Laws.{Short, Long, AllShort, WritesPlant, AcceptedWhenWritten, too-long, FirstFault, long-stations, long-lines, long-tree, in-stations, in-lines, in-tree, RefusedAtFirstFault, LongBeforeAll}
+use Rattle.texts.specs.Verdict.{Verdict, accepted, refused, because, on-tree, on-lines, on-stations, unless-long, verdict}
+use Rattle.texts.proofs.Judging.{read-on}
+
+-- what a verdict says of three texts
+abbrev Says : List ℕ → List ℕ → List ℕ → Verdict → Type 0
+Says ss ls tree (accepted S L t) = WritesPlant ss ls tree S L t
+Says ss ls tree (refused e) = FirstFault ss ls tree e
+
+-- the lines join stations that are there
+joins : (n : ℕ) (ls : List ℕ) (L : List Line) → Writes (line-form n) ls L → Drawing.Joins n L
+joins n ls L w = lines-ranged n ls L (lines-accepted n .all-written ls L w) .1
+
+tree-says : (ss ls tree : List ℕ) (S : List Station) (L : List Line) (v : Drawing.Verdict) → AllShort ss ls tree → Writes station-form ss S → Writes (line-form (length S)) ls L → Drawing.verdict (length S) L tree ≡ v → Says ss ls tree (on-tree S L v)
+tree-says ss ls tree S L (Drawing.accepted t) short a b e =
+    record { short = short; stations-text = a; lines-text = b; tree-text = Drawn.accepted-when-written .only-written (length S) L tree t (a .lists .few) (joins (length S) ls L b) e }
+tree-says ss ls tree S L (Drawing.refused r p) short a b e = in-tree short S L a b refl (Drawn.refused-at-first-fault .only-first (length S) L tree r p (a .lists .few) (joins (length S) ls L b) e)
+
+lines-says : (ss ls tree : List ℕ) (S : List Station) (v : Rows.Verdict Line) → AllShort ss ls tree → Writes station-form ss S → Rows.verdict (lines (length S)) ls ≡ v → Says ss ls tree (on-lines S v tree)
+lines-says ss ls tree S (Rows.table L) short a e = tree-says ss ls tree S L (Drawing.verdict (length S) L tree) short a (lines-accepted (length S) .only-written ls L e) refl
+lines-says ss ls tree S (Rows.refused r p) short a e = in-lines short S a refl (lines-refused (length S) ls r p e)
+
+stations-says : (ss ls tree : List ℕ) (v : Rows.Verdict Station) → AllShort ss ls tree → Rows.verdict stations ss ≡ v → Says ss ls tree (on-stations v ls tree)
+stations-says ss ls tree (Rows.table S) short e = lines-says ss ls tree S (Rows.verdict (lines (length S)) ls) short (stations-accepted .only-written ss S e) refl
+stations-says ss ls tree (Rows.refused r p) short e = in-stations short refl (stations-refused ss r p e)
+
+says : (ss ls tree : List ℕ) → Says ss ls tree (verdict ss ls tree)
+says ss ls tree =
+    cond-both (ltb 65535 (length ss)) _ _ (Says ss ls tree) (λ p. long-stations (ltb-true 65535 (length ss) p) refl) (λ p.
+    let a : Short ss = ltb-false 65535 (length ss) p in
+    cond-both (ltb 65535 (length ls)) _ _ (Says ss ls tree) (λ q. long-lines a (ltb-true 65535 (length ls) q) refl) (λ q.
+    let b : Short ls = ltb-false 65535 (length ls) q in
+    cond-both (ltb 65535 (length tree)) _ _ (Says ss ls tree) (λ r. long-tree a b (ltb-true 65535 (length tree) r) refl) (λ r.
+    let c : Short tree = ltb-false 65535 (length tree) r in
+    stations-says ss ls tree (Rows.verdict stations ss) (a, b, c) refl)))
+
+-- both tables are written
+tables-written : (ss ls tree : List ℕ) (S : List Station) (L : List Line) → AllShort ss ls tree → Writes station-form ss S → Writes (line-form (length S)) ls L → verdict ss ls tree ≡ on-tree S L (Drawing.verdict (length S) L tree)
+tables-written ss ls tree S L short a b =
+    read-on ss ls tree (short .0) (short .1) (short .2)
+    ∙ ap (λ v. on-stations v ls tree) (stations-accepted .all-written ss S a)
+    ∙ ap (λ v. on-lines S v tree) (lines-accepted (length S) .all-written ls L b)
+
+all-written : (ss ls tree : List ℕ) (S : List Station) (L : List Line) (t : Tree) → WritesPlant ss ls tree S L t → verdict ss ls tree ≡ accepted S L t
+all-written ss ls tree S L t w =
+    let a = w .stations-text in
+    let b = w .lines-text in
+    tables-written ss ls tree S L (w .short) a b
+    ∙ ap (on-tree S L) (Drawn.accepted-when-written .all-written (length S) L tree t (a .lists .few) (joins (length S) ls L b) (w .tree-text))
+
+same-plant : (S T : List Station) (L M : List Line) (t u : Tree) → accepted S L t ≡ accepted T M u → (S ≡ T) × (L ≡ M) × (t ≡ u)
+same-plant S T L M t u e = (cc, cc, cc)
+
+pub accepted-when-written : AcceptedWhenWritten
+accepted-when-written =
+    record {
+      only-written = λ ss ls tree S L t e. subst (Says ss ls tree) e (says ss ls tree);
+      all-written = all-written;
+      one-plant = λ ss ls tree S T L M t u v w. same-plant S T L M t u (sym (all-written ss ls tree S L t v) ∙ all-written ss ls tree T M u w);
+    }
+
+pub refused-at-first-fault : RefusedAtFirstFault
+refused-at-first-fault ss ls tree e is = subst (Says ss ls tree) is (says ss ls tree)
+
+-- ---- texts that are too long
+
+long : (text : List ℕ) (part : Part) (v : Verdict) → Long text → unless-long text part v ≡ refused (too-long part)
+long text part v h = ap (λ b. cond b (refused (too-long part)) v) (lt-ltb 65535 (length text) h)
+
+short : (text : List ℕ) (part : Part) (v : Verdict) → Short text → unless-long text part v ≡ v
+short text part v h = ap (λ b. cond b (refused (too-long part)) v) (le-ltb 65535 (length text) h)
+
+pub long-before-all : LongBeforeAll
+long-before-all =
+    record {
+      stations = λ ss ls tree a. long ss _ _ a;
+      lines = λ ss ls tree a b. short ss _ _ a ∙ long ls _ _ b;
+      tree = λ ss ls tree a b c. short ss _ _ a ∙ short ls _ _ b ∙ long tree _ _ c;
+    }
