@@ -8,7 +8,7 @@ use native.Mathlib.Omega.{arith}
 use lib.Dec.{eqb, ltb}
 use lib.ListN.{length, getD}
 use Rattle.std.proofs.shelf.Lists.{length-map}
-use Rattle.std.proofs.shelf.Tests.{eqb-true, eqb-false, eq-eqb, le-ltb, ltb-true, ltb-false, cond-both}
+use Rattle.std.proofs.shelf.Tests.{cases-bool, eqb-true, eqb-false, eq-eqb, ne-eqb, lt-ltb, le-ltb, ltb-true, ltb-false, cond-both}
 use Rattle.std.specs.declared.option.Option.{Option}
 use Rattle.std.specs.declared.option.Option.the-variants.{Some, None}
 use Rattle.std.specs.declared.result.Result.{Result}
@@ -121,3 +121,59 @@ module _ {A : Type 0} (U : Rules A) (F : Form A) (J : Judges U F) where
       ∙ (λ x. cond (le-ltb (F .most) (k + 1) few x) (Err R.RowCount) (cond (eq-eqb (length ps) (length (F .head)) n x) (J .body (k + 1) ps) (Err R.FieldCount)))
       ∙ J .written (k + 1) k a ps (t .is) (t .fair .0)
       ∙ (λ x. settled (eq-eqb (k + 1) (k + 1) refl x) (J .true-joined a (t .fair .1) x) a)
+
+  -- ---- a row that breaks a rule, and none before it, is refused for it
+
+  whole-body : (k : ℕ) (ps : List (List ℕ)) → k < F .most → Counted F (map meaning ps) → U .judge (k + 1) ps ≡ J .body (k + 1) ps
+  whole-body k ps few counted =
+      let le : k + 1 ≤ F .most = omega arith in
+      let n : length ps ≡ length (F .head) = sym (length-map ps meaning) ∙ counted in
+      J .judge-is (k + 1) ps ∙ (λ x. cond (le-ltb (F .most) (k + 1) le x) (Err R.RowCount) (cond (eq-eqb (length ps) (length (F .head)) n x) (J .body (k + 1) ps) (Err R.FieldCount)))
+
+  past-most : (k : ℕ) (ps : List (List ℕ)) → F .most ≤ k → U .judge (k + 1) ps ≡ Err R.RowCount
+  past-most k ps le =
+      let lt : F .most < k + 1 = omega arith in
+      J .judge-is (k + 1) ps ∙ ap (λ t. cond t (Err R.RowCount) (cond (eqb (length ps) (length (F .head))) (J .body (k + 1) ps) (Err R.FieldCount))) (lt-ltb (F .most) (k + 1) lt)
+
+  wrong-count : (k : ℕ) (ps : List (List ℕ)) → k < F .most → (Counted F (map meaning ps) → ⊥) → U .judge (k + 1) ps ≡ Err R.FieldCount
+  wrong-count k ps few never =
+      let le : k + 1 ≤ F .most = omega arith in
+      let n : length ps ≡ length (F .head) → ⊥ = λ n. never (length-map ps meaning ∙ n) in
+      J .judge-is (k + 1) ps ∙ (λ x. cond (le-ltb (F .most) (k + 1) le x) (Err R.RowCount) (cond (ne-eqb (length ps) (length (F .head)) n x) (J .body (k + 1) ps) (Err R.FieldCount)))
+
+  wrong-form : (k : ℕ) (ps : List (List ℕ)) → Counted F (map meaning ps) → (Formed F (map meaning ps) → ⊥) → J .body (k + 1) ps ≡ Err R.FieldForm
+  wrong-form k ps counted never = ⊎-elim (λ e. e) (λ f. absurd (never f)) (J .formed (k + 1) ps (sym (length-map ps meaning) ∙ counted))
+
+  first-is : (ps : List (List ℕ)) (i : ℕ) (a : A) → map meaning ps ≡ F .cells i a → getD (map meaning ps) 0 [] ≡ spelled i
+  first-is ps i a e = ap (λ l. getD l 0 []) e ∙ J .first-cell i a
+
+  wrong-number : (k : ℕ) (ps : List (List ℕ)) → Formed F (map meaning ps) → (Numbered k (map meaning ps) → ⊥) → J .body (k + 1) ps ≡ Err R.RowNumber
+  wrong-number k ps f never =
+      let differ : f .0 + 1 ≡ k + 1 → ⊥ = λ e. let at : f .0 ≡ k = omega arith in never (first-is ps (f .0) (f .1) (f .3) ∙ ap spelled at) in
+      J .written (k + 1) (f .0) (f .1) ps (f .3) (f .2) ∙ ap (λ t. settled t (J .joined (f .1)) (f .1)) (ne-eqb (f .0 + 1) (k + 1) differ)
+
+  wrong-ends : (k : ℕ) (ps : List (List ℕ)) → Formed F (map meaning ps) → Numbered k (map meaning ps) → (Joins F (map meaning ps) → ⊥) → J .body (k + 1) ps ≡ Err R.LineEnds
+  wrong-ends k ps f numbered never =
+      let same : f .0 + 1 ≡ k + 1 = ap (λ x. x + 1) (same-number (f .0) k (sym (first-is ps (f .0) (f .1) (f .3)) ∙ numbered)) in
+      let apart : J .joined (f .1) ≡ false = ⊎-elim (λ t. absurd (never (f .0, f .1, f .2, J .joined-true (f .1) t, f .3))) (λ e. e) (cases-bool (J .joined (f .1))) in
+      J .written (k + 1) (f .0) (f .1) ps (f .3) (f .2) ∙ (λ x. settled (eq-eqb (f .0 + 1) (k + 1) same x) (apart x) (f .1))
+
+  pub breaks-judged : (k : ℕ) (ps : List (List ℕ)) (r : Reason) → Breaks F k (map meaning ps) r → U .judge (k + 1) ps ≡ Err r
+  breaks-judged k ps R.RowCount b = past-most k ps b
+  breaks-judged k ps R.FieldCount b = wrong-count k ps (b .0) (b .1)
+  breaks-judged k ps R.FieldForm b = whole-body k ps (b .0) (b .1) ∙ wrong-form k ps (b .1) (b .2)
+  breaks-judged k ps R.RowNumber b = whole-body k ps (b .0) (b .1) ∙ wrong-number k ps (b .2) (b .3)
+  breaks-judged k ps R.LineEnds b = whole-body k ps (b .0) (b .1) ∙ wrong-ends k ps (b .2) (b .3) (b .4)
+  breaks-judged k ps R.TextTooLong b = absurd b
+  breaks-judged k ps R.MemoryTooShort b = absurd b
+  breaks-judged k ps R.TableGrammar b = absurd b
+  breaks-judged k ps R.TreeGrammar b = absurd b
+  breaks-judged k ps R.TooDeep b = absurd b
+  breaks-judged k ps R.LeafNumber b = absurd b
+  breaks-judged k ps R.HalvesApart b = absurd b
+  breaks-judged k ps R.NotThePlant b = absurd b
+  breaks-judged k ps R.Blank b = absurd b
+  breaks-judged k ps R.NoSuchRecord b = absurd b
+  breaks-judged k ps R.OutOfRange b = absurd b
+  breaks-judged k ps R.NothingFits b = absurd b
+  breaks-judged k ps R.NotOpen b = absurd b

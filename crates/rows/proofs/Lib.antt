@@ -8,4 +8,5 @@ pub mod Values
 pub mod Judging
 pub mod StationForm
 pub mod LineForm
+pub mod Walking
 pub mod Accepting

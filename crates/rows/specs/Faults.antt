@@ -54,22 +54,42 @@ Breaks F k cs NotOpen = ⊥
 
 -- ---- the faults of a text
 
+-- The text is these records, each with its CRLF, and then the rest.
+pub record After (s : List ℕ) (before : List W.Row) (rest : List ℕ) : Type 0 where
+  pub proper : All W.Proper before
+  pub split : s ≡ W.lines before ++ rest
+
+-- The rest of a text begins with this record, which ends with its CRLF or where the text ends.
+pub record Next (rest : List ℕ) (this : W.Row) : Type 0 where
+  pub proper : W.Proper this
+  pub there : Follows rest [] this
+
+-- A byte, or the end, is not allowed: after the header and rows that are in order, or within the header, and before the next record ends.
+pub record GrammarAtFault {A : Type 0} (F : Form A) (s : List ℕ) (place : ℕ) : Type 0 where
+  pub before : List W.Row
+  pub rest : List ℕ
+  pub after : After s before rest
+  pub order : (before ≡ []) ⊎ ((rows : List A) × Lists F before rows)
+  pub unended : (this : W.Row) → Next rest this → ⊥
+  pub fault : Refused s place
+
 -- The first record is not the header.
 pub record HeaderAtFault {A : Type 0} (F : Form A) (s : List ℕ) (place : ℕ) : Type 0 where
   pub this : W.Row
-  pub proper : W.Proper this
-  pub there : Follows s [] this
+  pub next : Next s this
   pub first : place ≡ 0
   pub fault : meant this ≡ F .head → ⊥
 
 -- A record is read whole after the header and rows that are in order, and breaks a rule.
 pub record RowAtFault {A : Type 0} (F : Form A) (s : List ℕ) (place : ℕ) (r : Reason) : Type 0 where
   pub before : List W.Row
-  pub this : W.Row
-  pub proper : All W.Proper (before ++ this ∷ [])
-  pub there : Follows s before this
+  pub rest : List ℕ
+  pub after : After s before rest
   pub rows : List A
   pub order : Lists F before rows
+  pub more : 0 < length rest
+  pub this : W.Row
+  pub next : Next rest this
   pub number : place ≡ length rows + 1
   pub fault : Breaks F (length rows) (meant this) r
 
@@ -85,7 +105,7 @@ pub record TooFew {A : Type 0} (F : Form A) (s : List ℕ) (place : ℕ) : Type 
 
 -- what each reason says of a text and a place; no other reason is given
 abbrev pub FirstFault : {A : Type 0} → Form A → List ℕ → ℕ → Reason → Type 0
-FirstFault F s place TableGrammar = Refused s place
+FirstFault F s place TableGrammar = GrammarAtFault F s place
 FirstFault F s place FieldCount = HeaderAtFault F s place ⊎ RowAtFault F s place FieldCount
 FirstFault F s place FieldForm = RowAtFault F s place FieldForm
 FirstFault F s place RowNumber = RowAtFault F s place RowNumber

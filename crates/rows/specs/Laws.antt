@@ -13,6 +13,7 @@ pub record AcceptedWhenWritten {A : Type 0} (U : Rules A) (F : Form A) : Type 0 
   pub all-written : (s : List ℕ) (rows : List A) → Writes F s rows → verdict U s ≡ table rows
   pub one-writing : (s : List ℕ) (rows others : List A) → Writes F s rows → Writes F s others → rows ≡ others
 
--- A text that is refused has its first fault at the place, of the kind that the reason says, with everything before it in order.
-abbrev pub RefusedAtFirstFault : {A : Type 0} → Rules A → Form A → Type 0
-RefusedAtFirstFault U F = (s : List ℕ) (r : Reason) (place : ℕ) → verdict U s ≡ refused r place → FirstFault F s place r
+-- A text is refused for a reason at a place exactly when its first fault is that one, with everything before it in order. So no text has two.
+pub record RefusedAtFirstFault {A : Type 0} (U : Rules A) (F : Form A) : Type 0 where
+  pub only-first : (s : List ℕ) (r : Reason) (place : ℕ) → verdict U s ≡ refused r place → FirstFault F s place r
+  pub all-first : (s : List ℕ) (r : Reason) (place : ℕ) → FirstFault F s place r → verdict U s ≡ refused r place

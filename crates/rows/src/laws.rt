@@ -11,7 +11,7 @@ pub fn accepted_when_written()
     ensures lines { λ _. ⌜ ((n : ℕ) → AcceptedWhenWritten (lineRules n) (lineForm n)) ⌝ }
 {}
 
-// A refused text has its first fault where the refusal says, with everything before it in order.
+// A text is refused for a reason at a place exactly when its first fault is that one, with everything before it in order.
 pub fn refused_at_first_fault()
     ensures stations { λ _. ⌜ RefusedAtFirstFault stationRules stationForm ⌝ }
     ensures lines { λ _. ⌜ ((n : ℕ) → RefusedAtFirstFault (lineRules n) (lineForm n)) ⌝ }

@@ -1,5 +1,6 @@
 -- What the verdict on three texts says of their writing. Assumes nothing.
 use mathlib.Core.Path.{_≡_}
+use mathlib.Core.Logic.{_⊎_}
 use mathlib.Core.List.{List}
 use Prim.Native.Nat.{ℕ, _≤_, _<_}
 use lib.ListN.{length}
@@ -53,9 +54,16 @@ pub data FirstFault (ss ls tree : List ℕ) (e : Refusal) : Type 0 where
   in-lines : AllShort ss ls tree → (stations : List Station) → Writes station-form ss stations → e .part ≡ P.Lines → Rows.FirstFault (line-form (length stations)) ls (e .place) (e .reason) → FirstFault ss ls tree e
   in-tree : AllShort ss ls tree → (stations : List Station) (lines : List Line) → Writes station-form ss stations → Writes (line-form (length stations)) ls lines → e .part ≡ P.Tree → Drawing.FirstFault (length stations) lines tree (e .place) (e .reason) → FirstFault ss ls tree e
 
--- Three texts that are refused have this first fault.
-abbrev pub RefusedAtFirstFault : Type 0
-RefusedAtFirstFault = (ss ls tree : List ℕ) (e : Refusal) → verdict ss ls tree ≡ refused e → FirstFault ss ls tree e
+-- Three texts are refused exactly for their first fault. They have no other.
+pub record RefusedAtFirstFault : Type 0 where
+  pub only-first : (ss ls tree : List ℕ) (e : Refusal) → verdict ss ls tree ≡ refused e → FirstFault ss ls tree e
+  pub all-first : (ss ls tree : List ℕ) (e : Refusal) → FirstFault ss ls tree e → verdict ss ls tree ≡ refused e
+  pub one-fault : (ss ls tree : List ℕ) (e d : Refusal) → FirstFault ss ls tree e → FirstFault ss ls tree d → e ≡ d
+
+-- Three texts are the writing of a plant, or they have a first fault, and never both.
+pub record OneAnswer : Type 0 where
+  pub some : (ss ls tree : List ℕ) → ((stations : List Station) × (lines : List Line) × (t : Tree) × WritesPlant ss ls tree stations lines t) ⊎ ((e : Refusal) × FirstFault ss ls tree e)
+  pub not-both : (ss ls tree : List ℕ) (stations : List Station) (lines : List Line) (t : Tree) (e : Refusal) → WritesPlant ss ls tree stations lines t → FirstFault ss ls tree e → ⊥
 
 -- A text that is too long is told before anything is read: the stations' text, whatever the other two are, then the lines', then the tree.
 pub record LongBeforeAll : Type 0 where
