@@ -1,21 +1,21 @@
 -- A text is accepted exactly when it is the writing of rows, and refused exactly where its first fault is.
 use mathlib.Core.Path.{_≡_, refl, sym, ap, subst, _∙_}
 use mathlib.Core.Logic.{_⊎_, inl, inr, ⊎-elim}
-use mathlib.Core.Bool.{Bool, true, false, cond}
+use mathlib.Core.Bool.{false, cond}
 use mathlib.Core.List.{List, [], _∷_, _++_, map, append-assoc, append-nil}
 use Prim.Native.Nat.{ℕ, _+_, _-_, _≤_, _<_}
 use native.Mathlib.Omega.{arith}
-use lib.Dec.{eqb, ltb}
+use lib.Dec.{ltb}
 use lib.ListN.{length}
 use Rattle.std.specs.shelf.Lists.{All}
 use Rattle.std.proofs.shelf.Elements.{all-push}
-use Rattle.std.proofs.shelf.Lists.{length-map, length-push, map-append}
+use Rattle.std.proofs.shelf.Lists.{length-push, map-append}
 use Rattle.std.proofs.shelf.Tests.{cases-bool, both-ways, lt-ltb, le-ltb, ltb-true, ltb-false, cond-both}
 use Rattle.std.specs.declared.result.Result.{Result}
 use Rattle.std.specs.declared.result.Result.the-variants.{Ok, Err}
 use Rattle.plant.specs.declared.refusal.Reason.{Reason}
 use Rattle.plant.specs.declared.refusal.Reason.the-variants as R
-use Rattle.tables.specs.Laws.{parts, told, meaning, Refused}
+use Rattle.tables.specs.Laws.{parts, meaning, Refused}
 use Rattle.tables.specs.Machine.{Told, done, stuck, row, whole, again}
 use Rattle.tables.specs.Written as W
 use Rattle.tables.proofs.Complete.{complete, onto, again-is}

@@ -3,7 +3,7 @@ use mathlib.Core.Path.{_≡_, refl, sym, ap, subst, _∙_}
 use mathlib.Core.Logic.{_⊎_, inl, inr}
 use mathlib.Core.Bool.{cond}
 use mathlib.Core.List.{List}
-use Prim.Native.Nat.{ℕ, _≤_, _<_}
+use Prim.Native.Nat.{ℕ}
 use native.Mathlib.Omega.{arith}
 use lib.Dec.{ltb}
 use lib.ListN.{length}
@@ -20,7 +20,7 @@ use Rattle.rows.specs.Stations.{stations}
 use Rattle.rows.specs.Verdict as Rows
 use Rattle.rows.specs.Written.{Writes, station-form, line-form}
 use Rattle.rows.proofs.Accepting.{stations-accepted, lines-accepted, stations-refused, lines-refused}
-use Rattle.rows.proofs.Ranges.{lines-ranged}
+use Rattle.rows.proofs.Ranges.{lines-between}
 use Rattle.drawing.specs.Faults as Drawing-faults
 use Rattle.drawing.specs.Verdict as Drawing
 use Rattle.drawing.proofs.Verdicts as Drawn
@@ -33,14 +33,10 @@ abbrev Says : List ℕ → List ℕ → List ℕ → Verdict → Type 0
 Says ss ls tree (accepted S L t) = WritesPlant ss ls tree S L t
 Says ss ls tree (refused e) = FirstFault ss ls tree e
 
--- the lines join stations that are there
-joins : (n : ℕ) (ls : List ℕ) (L : List Line) → Writes (line-form n) ls L → Drawing.Joins n L
-joins n ls L w = lines-ranged n ls L (lines-accepted n .all-written ls L w) .1
-
 tree-says : (ss ls tree : List ℕ) (S : List Station) (L : List Line) (v : Drawing.Verdict) → AllShort ss ls tree → Writes station-form ss S → Writes (line-form (length S)) ls L → Drawing.verdict (length S) L tree ≡ v → Says ss ls tree (on-tree S L v)
 tree-says ss ls tree S L (Drawing.accepted t) short a b e =
-    record { short = short; stations-text = a; lines-text = b; tree-text = Drawn.accepted-when-written .only-written (length S) L tree t (a .lists .few) (joins (length S) ls L b) e }
-tree-says ss ls tree S L (Drawing.refused r p) short a b e = in-tree short S L a b refl (Drawn.refused-at-first-fault .only-first (length S) L tree r p (a .lists .few) (joins (length S) ls L b) e)
+    record { short = short; stations-text = a; lines-text = b; tree-text = Drawn.accepted-when-written .only-written (length S) L tree t (a .lists .few) (lines-between (length S) ls L b) e }
+tree-says ss ls tree S L (Drawing.refused r p) short a b e = in-tree short S L a b refl (Drawn.refused-at-first-fault .only-first (length S) L tree r p (a .lists .few) (lines-between (length S) ls L b) e)
 
 lines-says : (ss ls tree : List ℕ) (S : List Station) (v : Rows.Verdict Line) → AllShort ss ls tree → Writes station-form ss S → Rows.verdict (lines (length S)) ls ≡ v → Says ss ls tree (on-lines S v tree)
 lines-says ss ls tree S (Rows.table L) short a e = tree-says ss ls tree S L (Drawing.verdict (length S) L tree) short a (lines-accepted (length S) .only-written ls L e) refl
@@ -72,7 +68,7 @@ all-written ss ls tree S L t w =
     let a = w .stations-text in
     let b = w .lines-text in
     tables-written ss ls tree S L (w .short) a b
-    ∙ ap (on-tree S L) (Drawn.accepted-when-written .all-written (length S) L tree t (a .lists .few) (joins (length S) ls L b) (w .tree-text))
+    ∙ ap (on-tree S L) (Drawn.accepted-when-written .all-written (length S) L tree t (a .lists .few) (lines-between (length S) ls L b) (w .tree-text))
 
 same-plant : (S T : List Station) (L M : List Line) (t u : Tree) → accepted S L t ≡ accepted T M u → (S ≡ T) × (L ≡ M) × (t ≡ u)
 same-plant S T L M t u e = (cc, cc, cc)
@@ -124,7 +120,7 @@ lines-wrong ss ls tree e S all a part f =
 tree-wrong : (ss ls tree : List ℕ) (e : Refusal) (S : List Station) (L : List Line) → AllShort ss ls tree → Writes station-form ss S → Writes (line-form (length S)) ls L → e .part ≡ P.Tree → Drawing-faults.FirstFault (length S) L tree (e .place) (e .reason) → verdict ss ls tree ≡ refused e
 tree-wrong ss ls tree e S L all a b part f =
     tables-written ss ls tree S L all a b
-    ∙ ap (on-tree S L) (Drawn.refused-at-first-fault .all-first (length S) L tree (e .reason) (e .place) (a .lists .few) (joins (length S) ls L b) f)
+    ∙ ap (on-tree S L) (Drawn.refused-at-first-fault .all-first (length S) L tree (e .reason) (e .place) (a .lists .few) (lines-between (length S) ls L b) f)
     ∙ same-part e P.Tree part
 
 first-refused : (ss ls tree : List ℕ) (e : Refusal) → FirstFault ss ls tree e → verdict ss ls tree ≡ refused e
