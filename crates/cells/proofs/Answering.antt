@@ -1,7 +1,7 @@
 -- The best over the whole plant, and the first of the best. Assumes nothing.
-use mathlib.Core.Path.{_≡_, refl, sym, ap, _∙_}
+use mathlib.Core.Path.{_≡_, refl, sym}
 use mathlib.Core.Bool.{Bool, true, false}
-use mathlib.Core.Logic.{_⊎_, inl, inr}
+use mathlib.Core.Logic.{_⊎_}
 use Prim.Native.Nat.{ℕ, _+_, _*_, _<_, _≤_}
 use native.Mathlib.Omega.{arith}
 use Rattle.std.specs.declared.option.Option.{Option}
@@ -13,7 +13,7 @@ use Rattle.cells.specs.Tops.{Tops}
 use Rattle.cells.specs.Inside.{Site, Scores, Modest, inner-hours}
 use Rattle.cells.specs.LineUp.{WholeBefore, Alike}
 use Rattle.cells.specs.Whole.{Whole, figure, whole-hours, Fits, Fitting, RootPairs}
-use Rattle.cells.specs.Traces.{first-of, second-of, Cells, Solved, Reaches, RootAttains, RootTraces}
+use Rattle.cells.specs.Traces.{first-of, second-of, Cells, Solved, RootAttains, RootTraces}
 use Rattle.cells.proofs.Root.{root-tops}
 use Rattle.cells.proofs.Topping.{none-some, some-is}
 use Rattle.cells.proofs.Tracing.{solved-at, root-attains, root-first}

@@ -1,19 +1,17 @@
 -- The best of a join is a join of bests. Assumes nothing.
-use mathlib.Core.Path.{_≡_, refl, sym, ap, _∙_}
-use mathlib.Core.Bool.{Bool, true, false, cond, _||_}
-use mathlib.Core.Logic.{_⊎_, inl, inr, ⊎-elim}
-use Prim.Native.Nat.{ℕ, _+_, _*_, _<_, _≤_}
+use mathlib.Core.Path.{_≡_, refl, sym, _∙_}
+use mathlib.Core.Bool.{Bool, true, false, cond}
+use Prim.Native.Nat.{ℕ, _+_, _*_, _≤_}
 use native.Mathlib.Omega.{arith}
 use lib.Dec.{eqb}
-use Rattle.std.proofs.shelf.Tests.{eqb-true, eq-eqb, ne-eqb, cond-true, cond-false, both-ways}
+use Rattle.std.proofs.shelf.Tests.{eq-eqb, ne-eqb, cond-true, cond-false, both-ways}
 use Rattle.std.specs.declared.option.Option.{Option}
-use Rattle.std.specs.declared.option.Option.the-variants.{Some, None}
 use Rattle.yardsticks.specs.Laws.{Ops, limit, record-limit}
 use Rattle.cells.specs.Tops.{Tops}
 use Rattle.cells.proofs.Topping.{order, not-above-chain, tops-same}
-use Rattle.plant.specs.Trees.{Net, Tree, leaf, series, parallel, left, right, inner, Builds}
+use Rattle.plant.specs.Trees.{Tree, leaf, series, parallel, right, Builds}
 use Rattle.plant.specs.Selections.{Selection}
-use Rattle.cells.specs.Inside.{Site, Scores, inner-hours, inner-figure, Opens, Choice, Sums, mid-figure, mid-hours, records, Modest, SeriesPairs}
+use Rattle.cells.specs.Inside.{Site, Scores, inner-figure, Choice, Sums, mid-figure, mid-hours, records, Modest, SeriesPairs}
 use Rattle.cells.specs.Tops.{Split}
 use Rattle.cells.proofs.Gluing.{series-parts, series-whole, parallel-parts, parallel-whole}
 

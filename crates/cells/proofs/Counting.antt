@@ -1,15 +1,14 @@
 -- How many leaves and nodes the tree of a plant has. Assumes nothing.
 use mathlib.Core.Path.{_≡_, refl}
-use mathlib.Core.Bool.{Bool, true, false}
-use mathlib.Core.Logic.{_⊎_, ⊎-elim}
+use mathlib.Core.Bool.{true}
 use Prim.Native.Nat.{ℕ, _+_, _*_, _<_, _≤_}
 use native.Mathlib.Omega.{arith}
-use Rattle.std.proofs.shelf.Tests.{cases-lt, or-left, or-right, eq-eqb}
+use Rattle.std.proofs.shelf.Tests.{or-left, or-right, eq-eqb}
 use Rattle.plant.specs.Nodes.{size}
-use Rattle.plant.specs.Trees.{Net, Tree, leaf, series, parallel, uses, Draws}
-use Rattle.cells.specs.Inside.{Site, line-of, records}
+use Rattle.plant.specs.Trees.{Tree, leaf, series, parallel, uses}
+use Rattle.cells.specs.Inside.{Site, line-of}
 use Rattle.cells.specs.Subtrees.{leaves}
-use Rattle.cells.specs.Whole.{Whole, sum-upto}
+use Rattle.cells.specs.Whole.{Whole}
 use Rattle.cells.proofs.Leaves.{lines-apart}
 use Rattle.cells.proofs.Numbered.{count-of, count-or, count-one, count-all, sum-ones}
 

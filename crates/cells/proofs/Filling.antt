@@ -1,32 +1,24 @@
 -- Filling the tables row by row: where rows lie, what a join's cells give, and what lies past a row's reach. Assumes nothing.
-use mathlib.Core.Path.{_≡_, refl, sym, ap, _∙_, subst}
-use mathlib.Core.Bool.{Bool, true, false, cond, not}
+use mathlib.Core.Path.{_≡_, refl}
+use mathlib.Core.Bool.{Bool, true, false}
 use mathlib.Core.List.{List}
-use mathlib.Core.Logic.{_⊎_, inl, inr, ⊎-elim}
-use Prim.Native.Nat.{ℕ, _+_, _-_, _*_, _<_, _≤_, min}
+use Prim.Native.Nat.{ℕ, _+_, _-_, _*_, _<_, _≤_}
 use native.Mathlib.Omega.{arith}
 use native.Mathlib.Nat.{mul-le-mul-right, suc-mul, add-mul}
-use lib.Dec.{eqb}
-use lib.ListN.{length, getD}
-use Rattle.std.proofs.shelf.Tests.{cases-lt, not-true, cases-bool, or-left, or-right, eq-eqb}
 use Rattle.std.specs.declared.option.Option.{Option}
 use Rattle.std.specs.declared.option.Option.the-variants.{Some, None}
 use Rattle.plant.specs.declared.tree.Join.{Join}
 use Rattle.plant.specs.declared.tree.Join.the-variants.{Series, Parallel}
 use Rattle.plant.specs.Nodes.{size, joined}
 use Rattle.plant.specs.Selections.{Selection}
-use Rattle.plant.specs.Trees.{Net, Tree, leaf, series, parallel, left, right, inner, uses, Builds}
+use Rattle.plant.specs.Trees.{Tree, leaf, series, parallel, right, Builds}
 use Rattle.yardsticks.specs.Laws.{Ops, limit, record-limit}
-use Rattle.cells.specs.Tops.{Tops, Split, Fair, cell-of, better-of}
-use Rattle.cells.specs.Inside.{Site, Scores, mid-figure, mid-hours, inner-hours, inner-figure, Opens, Choice, SeriesPairs, records, Modest, line-of}
-use Rattle.cells.specs.Joins.{first-right, second-left, passes, between-figure, between-hours, Through}
-use Rattle.cells.specs.Subtrees.{sub}
-use Rattle.cells.specs.Tables.{bit, row-start, place, memory, Done, most, Reached, need-of}
-use Rattle.cells.specs.Whole.{Whole, sum-upto}
-use Rattle.cells.proofs.Topping.{order, none-some, tops-none, tops-same, tops-better}
+use Rattle.cells.specs.Tops.{Tops, Split, cell-of}
+use Rattle.cells.specs.Inside.{Site, Scores, mid-hours, inner-hours, Choice, records, Modest}
+use Rattle.cells.specs.Joins.{between-figure, Through}
+use Rattle.cells.specs.Tables.{bit, row-start, place, memory, Done, most}
+use Rattle.cells.proofs.Topping.{tops-same}
 use Rattle.cells.proofs.Cells.{series-tops, parallel-tops, choice-size, mid-size}
-use Rattle.cells.proofs.Leaves.{lines-apart}
-use Rattle.cells.proofs.Numbered.{count-of, count-or, count-one, count-all, sum-ones}
 
 -- ---- where rows lie
 

@@ -1,14 +1,12 @@
 -- Choices of a join are choices of its halves. Assumes nothing.
 use mathlib.Core.Path.{_≡_, refl, sym, ap, _∙_}
-use mathlib.Core.Bool.{Bool, true, false, cond, _||_}
-use mathlib.Core.Logic.{_⊎_, inl, inr, ⊎-elim}
-use Prim.Native.Nat.{ℕ, _+_, _*_, _<_, _≤_}
-use native.Mathlib.Omega.{arith}
-use lib.Dec.{eqb}
-use Rattle.std.proofs.shelf.Tests.{eqb-true, eqb-false, eq-eqb, ne-eqb, cases-eq, cases-bool, or-cases, or-left, or-right, or-from, both-ways, cond-true, cond-false}
-use Rattle.plant.specs.Trees.{Net, Tree, leaf, series, parallel, left, right, inner, station-of, InSeries, InParallel, Builds}
+use mathlib.Core.Bool.{Bool, true, cond, _||_}
+use mathlib.Core.Logic.{_⊎_, ⊎-elim}
+use Prim.Native.Nat.{ℕ, _+_}
+use Rattle.std.proofs.shelf.Tests.{eqb-true, eq-eqb, cases-bool, or-cases, or-left, or-right, cond-true, cond-false}
+use Rattle.plant.specs.Trees.{Tree, leaf, series, parallel, left, right, inner, station-of, InSeries, InParallel, Builds}
 use Rattle.plant.specs.Selections.{Selection}
-use Rattle.cells.specs.Inside.{Site, Scores, line-of, inner-hours, inner-figure, Opens, Choice, Sums, mid-figure, mid-hours, SeriesChoice}
+use Rattle.cells.specs.Inside.{Site, Scores, inner-hours, inner-figure, Opens, Choice, Sums, mid-hours, SeriesChoice}
 use Rattle.cells.proofs.Pieces.{shares, left-on, right-on, inner-on, on-cases}
 
 module _ (N : Site) where

@@ -1,22 +1,22 @@
 -- Each line in one leaf: the lines of two halves are apart, and the tree builds the whole. Assumes nothing.
-use mathlib.Core.Path.{_≡_, refl, sym, ap, _∙_}
-use mathlib.Core.Bool.{Bool, true, false, cond, _||_}
+use mathlib.Core.Path.{_≡_, refl}
+use mathlib.Core.Bool.{Bool, true, false}
 use mathlib.Core.List.{List}
-use mathlib.Core.Logic.{_⊎_, inl, inr, ⊎-elim}
+use mathlib.Core.Logic.{_⊎_, ⊎-elim}
 use Prim.Native.Nat.{ℕ, _+_, _<_, _≤_}
 use native.Mathlib.Omega.{arith}
 use lib.Dec.{eqb}
-use lib.ListN.{getD, length}
+use lib.ListN.{length}
 use Rattle.std.proofs.shelf.Lists.{getD-past}
-use Rattle.std.proofs.shelf.Tests.{eqb-true, eq-eqb, cases-lt, cases-bool, or-cases, or-left, or-right, cond-true, cond-false, both-ways}
+use Rattle.std.proofs.shelf.Tests.{eq-eqb, cases-lt, cases-bool, or-cases, or-left, or-right, cond-true, cond-false, both-ways}
 use Rattle.yardsticks.specs.Laws.{Laws, record-limit}
 use Rattle.plant.specs.declared.records.Station.{Station}
 use Rattle.plant.specs.declared.records.Line.{Line}
 use Rattle.plant.specs.Records.{no-station, no-line, station, line, StationsInRange, LinesInRange}
-use Rattle.plant.specs.Trees.{Net, Tree, leaf, series, parallel, left, right, inner, station-of, uses, Builds, Draws}
-use Rattle.cells.specs.Inside.{Site, Scores, line-of, Modest, scores-of}
+use Rattle.plant.specs.Trees.{Tree, leaf, series, parallel, left, right, inner, uses, Draws}
+use Rattle.cells.specs.Inside.{Site, line-of, Modest, scores-of}
 use Rattle.cells.specs.Whole.{Whole}
-use Rattle.cells.proofs.Pieces.{on-cases, left-on, right-on, inner-on}
+use Rattle.cells.proofs.Pieces.{on-cases}
 use Rattle.cells.proofs.Gluing.{series-inner-cases}
 
 pub line-used : (t : Tree) (k : ℕ) → line-of t k ≡ true → 1 ≤ uses t k

@@ -1,6 +1,6 @@
 -- The choices of a cell by number are those by its tree. Assumes nothing.
-use mathlib.Core.Path.{_≡_, refl, sym, ap, _∙_}
-use mathlib.Core.Bool.{Bool, true, false}
+use mathlib.Core.Path.{_≡_, sym, _∙_}
+use mathlib.Core.Bool.{Bool, true}
 use mathlib.Core.List.{List}
 use Prim.Native.Nat.{ℕ, _+_, _*_, _<_, _≤_}
 use lib.ListN.{length}
@@ -11,8 +11,8 @@ use Rattle.plant.specs.Selections.{Selection}
 use Rattle.plant.specs.Trees.{net-of, Tree, inner, uses, Builds}
 use Rattle.yardsticks.specs.Laws.{Laws, limit, record-limit}
 use Rattle.cells.specs.Tops.{Tops}
-use Rattle.cells.specs.Cell.{cell-hours, cell-figure, Opened, CellChoice}
-use Rattle.cells.specs.Inside.{site-of, scores-of, line-of, inner-hours, inner-figure, Opens, Choice, Modest}
+use Rattle.cells.specs.Cell.{cell-hours, cell-figure, CellChoice}
+use Rattle.cells.specs.Inside.{site-of, scores-of, line-of, inner-hours, inner-figure, Choice, Modest}
 use Rattle.cells.proofs.Root.{hours-numbered, figure-node}
 use Rattle.cells.proofs.Topping.{tops-same}
 

@@ -1,11 +1,11 @@
 -- The line-up is a strict order, and total up to what is the same inside. Assumes nothing.
-use mathlib.Core.Path.{_≡_, refl, sym, ap, _∙_}
-use mathlib.Core.Bool.{Bool, true, false, cond, _||_}
+use mathlib.Core.Path.{_≡_, refl, sym, _∙_}
+use mathlib.Core.Bool.{Bool, true, false}
 use mathlib.Core.Logic.{_⊎_, inl, inr, ⊎-elim}
-use Prim.Native.Nat.{ℕ, _+_, _<_, _≤_}
+use Prim.Native.Nat.{ℕ, _<_}
 use native.Mathlib.Omega.{arith}
 use Rattle.std.proofs.shelf.Tests.{cases-order, or-left, or-right, or-cases, both-ways}
-use Rattle.plant.specs.Trees.{Net, Tree, leaf, series, parallel, left, right, inner}
+use Rattle.plant.specs.Trees.{Tree, leaf, series, parallel, right, inner}
 use Rattle.plant.specs.Selections.{Selection}
 use Rattle.cells.specs.Inside.{Site, inner-hours}
 use Rattle.cells.specs.LineUp.{Same, Shut-before, Before, NotAfter, Alike, WholeBefore}

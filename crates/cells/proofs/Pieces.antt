@@ -1,12 +1,11 @@
 -- What the sharing rules give. Assumes nothing.
-use mathlib.Core.Path.{_≡_, refl, sym, ap, _∙_}
-use mathlib.Core.Bool.{Bool, true, false, cond, _||_}
+use mathlib.Core.Path.{_≡_, refl, sym, _∙_}
+use mathlib.Core.Bool.{true, _||_}
 use mathlib.Core.Logic.{_⊎_, inl, inr, ⊎-elim}
-use Prim.Native.Nat.{ℕ, _+_, _*_, _<_, _≤_}
-use native.Mathlib.Omega.{arith}
+use Prim.Native.Nat.{ℕ}
 use lib.Dec.{eqb}
-use Rattle.std.proofs.shelf.Tests.{eqb-true, eqb-false, eq-eqb, ne-eqb, cases-eq, cases-bool, or-cases, or-left, or-right, or-from, both-ways}
-use Rattle.plant.specs.Trees.{Net, Tree, leaf, series, parallel, left, right, inner, station-of, InSeries, InParallel, Builds}
+use Rattle.std.proofs.shelf.Tests.{eqb-true, eq-eqb, cases-eq, or-cases, or-left, or-right, both-ways}
+use Rattle.plant.specs.Trees.{Net, Tree, leaf, series, parallel, left, right, inner, station-of, InParallel, Builds}
 
 module _ (N : Net) where
   pub left-on : (t : Tree) → station-of N t (left N t) ≡ true

@@ -1,20 +1,19 @@
 -- The whole plant's sums, by number, are those of its tree. Assumes nothing.
 use mathlib.Core.Path.{_≡_, refl, sym, ap, _∙_}
-use mathlib.Core.Bool.{Bool, true, false, cond, _||_}
-use mathlib.Core.Logic.{_⊎_, inl, inr, ⊎-elim}
-use Prim.Native.Nat.{ℕ, zero, suc, _+_, _*_, _<_, _≤_}
+use mathlib.Core.Bool.{Bool, true, false, _||_}
+use mathlib.Core.Logic.{_⊎_, ⊎-elim}
+use Prim.Native.Nat.{ℕ, _+_, _*_, _<_, _≤_}
 use native.Mathlib.Omega.{arith}
 use lib.Dec.{eqb}
 use Rattle.std.proofs.shelf.Tests.{eqb-true, eq-eqb, or-cases, or-left, or-right}
 use Rattle.std.specs.declared.option.Option.{Option}
-use Rattle.std.specs.declared.option.Option.the-variants.{Some, None}
 use Rattle.yardsticks.specs.Laws.{Ops, limit, record-limit}
 use Rattle.cells.specs.Tops.{Tops}
-use Rattle.cells.proofs.Topping.{order, not-above-chain, tops-same}
-use Rattle.plant.specs.Trees.{Net, Tree, leaf, series, parallel, left, right, inner, station-of, uses, Builds}
-use Rattle.plant.specs.Selections.{Selection, upto}
+use Rattle.cells.proofs.Topping.{order, not-above-chain}
+use Rattle.plant.specs.Trees.{Tree, leaf, series, parallel, left, right, inner, station-of, uses, Builds}
+use Rattle.plant.specs.Selections.{Selection}
 use Rattle.cells.specs.Inside.{Site, Scores, line-of, inner-hours, inner-figure, Opens, Choice, mid-figure, mid-hours, records, Modest}
-use Rattle.cells.specs.Whole.{sum-upto, open-station, open-line, figure, whole-hours, Whole, Fits, Fitting, RootPairs}
+use Rattle.cells.specs.Whole.{sum-upto, open-station, open-line, figure, whole-hours, Whole, Fitting, RootPairs}
 use Rattle.cells.proofs.Pieces.{left-on, right-on, inner-on, on-cases, ends-differ, left-not-inner, right-not-inner, series-insides, series-first-middle, series-second-middle, parallel-insides}
 use Rattle.cells.proofs.Gluing.{series-has-middle, series-has-first, series-has-second}
 use Rattle.cells.proofs.Cells.{mid-size, line-size, figure-size}

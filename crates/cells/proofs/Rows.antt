@@ -1,8 +1,8 @@
 -- The join of two rows in memory, from the first index at which both may hold something to the last. Assumes nothing.
-use mathlib.Core.Path.{_≡_, refl, sym, ap, _∙_}
-use mathlib.Core.Bool.{Bool, true, false}
+use mathlib.Core.Path.{_≡_, sym, ap, _∙_}
+use mathlib.Core.Bool.{Bool}
 use mathlib.Core.List.{List}
-use mathlib.Core.Logic.{_⊎_, inl, inr, ⊎-elim}
+use mathlib.Core.Logic.{_⊎_, ⊎-elim}
 use Prim.Native.Nat.{ℕ, _+_, _-_, _<_, _≤_}
 use native.Mathlib.Omega.{arith}
 use lib.ListN.{length, getD, take, drop, length-take, length-drop}
@@ -11,7 +11,7 @@ use Rattle.std.proofs.shelf.Lists.{getD-past}
 use Rattle.std.proofs.shelf.Tests.{cases-lt}
 use Rattle.std.specs.declared.option.Option.{Option}
 use Rattle.std.specs.declared.option.Option.the-variants.{Some, None}
-use Rattle.cells.specs.Tops.{Tops, Split, cell-of, better-of, joined-of}
+use Rattle.cells.specs.Tops.{Tops, Split, cell-of, joined-of}
 use Rattle.cells.proofs.Topping.{Below, tops-none, tops-same, held-within, joined-parts}
 
 module _ {F : Type 0} {above : F → F → Bool} (plus : F → F → F) (first second : List (Option F)) (mid : F) (rest : ℕ) where

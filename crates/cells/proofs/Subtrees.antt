@@ -1,8 +1,8 @@
 -- Each number below the size of a tree is a node: its shape, its halves and its ends. Assumes nothing.
-use mathlib.Core.Path.{_≡_, refl, sym, ap, _∙_, subst}
-use mathlib.Core.Bool.{Bool, true, false, cond, _||_}
+use mathlib.Core.Path.{_≡_, refl, ap, _∙_, subst}
+use mathlib.Core.Bool.{Bool, true, false, cond}
 use mathlib.Core.List.{List, [], _∷_, _++_}
-use mathlib.Core.Logic.{_⊎_, inl, inr, ⊎-elim}
+use mathlib.Core.Logic.{_⊎_, ⊎-elim}
 use Prim.Native.Nat.{ℕ, _+_, _-_, _<_, _≤_}
 use native.Mathlib.Omega.{arith}
 use lib.Dec.{ltb}
@@ -14,7 +14,7 @@ use Rattle.plant.specs.declared.tree.Join.the-variants.{Series, Parallel}
 use Rattle.plant.specs.declared.tree.Shape.the-variants as S
 use Rattle.plant.specs.declared.tree.Node.{Node}
 use Rattle.plant.specs.Nodes.{size, node, numbered, no-node, joined}
-use Rattle.plant.specs.Trees.{Net, Tree, leaf, series, parallel, left, right, inner, station-of, uses, Builds}
+use Rattle.plant.specs.Trees.{Net, Tree, leaf, series, parallel, uses, Builds}
 use Rattle.cells.specs.Subtrees.{sub}
 use Rattle.cells.specs.Inside.{records, line-of}
 use Rattle.cells.specs.Traces.{first-of, second-of}

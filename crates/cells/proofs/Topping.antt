@@ -3,15 +3,15 @@ use mathlib.Core.Path.{_≡_, refl, sym, _∙_}
 use mathlib.Core.Bool.{Bool, true, false, cond}
 use mathlib.Core.Logic.{_⊎_, inl, inr, ⊎-elim}
 use mathlib.Core.List.{List}
-use Prim.Native.Nat.{ℕ, _+_, _-_, _<_, _≤_}
+use Prim.Native.Nat.{ℕ, _+_, _-_, _<_}
 use native.Mathlib.Omega.{arith}
-use lib.ListN.{length, getD}
+use lib.ListN.{length}
 use Rattle.std.proofs.shelf.Tests.{cases-lt}
 use Rattle.std.proofs.shelf.Lists.{getD-past}
 use Rattle.std.specs.declared.option.Option.{Option}
 use Rattle.std.specs.declared.option.Option.the-variants.{Some, None}
 use Rattle.yardsticks.specs.Laws.{Ops}
-use Rattle.cells.specs.Tops.{Tops, Order, Split, cell-of, better-of, joined-of}
+use Rattle.cells.specs.Tops.{Tops, Order, cell-of, better-of, joined-of}
 
 -- some index below i has the candidate x
 abbrev pub Below : {F : Type 0} → (ℕ → F → Type 0) → ℕ → F → Type 0

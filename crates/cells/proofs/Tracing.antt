@@ -1,26 +1,26 @@
 -- The trace's selection is the first of the best. Assumes nothing.
 use mathlib.Core.Path.{_≡_, refl, sym, ap, _∙_}
-use mathlib.Core.Bool.{Bool, true, false, cond, _||_}
+use mathlib.Core.Bool.{Bool, true, false}
 use mathlib.Core.Logic.{_⊎_, inl, inr, ⊎-elim}
 use Prim.Native.Nat.{ℕ, _+_, _*_, _<_, _≤_}
 use native.Mathlib.Omega.{arith}
 use Rattle.std.proofs.shelf.Tests.{both-ways, cases-lt}
 use Rattle.std.specs.declared.option.Option.{Option}
-use Rattle.std.specs.declared.option.Option.the-variants.{Some, None}
+use Rattle.std.specs.declared.option.Option.the-variants.{Some}
 use Rattle.yardsticks.specs.Laws.{Ops, limit, record-limit}
 use Rattle.cells.specs.Tops.{Tops}
 use Rattle.cells.proofs.Topping.{order, not-above-chain}
-use Rattle.plant.specs.Trees.{Net, Tree, leaf, series, parallel, left, right, inner, station-of, Builds}
+use Rattle.plant.specs.Trees.{Tree, leaf, series, parallel, left, right, Builds}
 use Rattle.plant.specs.Selections.{Selection}
 use Rattle.cells.specs.Inside.{Site, Scores, inner-hours, inner-figure, Opens, Choice, mid-figure, mid-hours, records, Modest}
 use Rattle.cells.specs.Whole.{whole-hours, figure, Whole}
-use Rattle.cells.specs.LineUp.{Same, Shut-before, Before, NotAfter, Alike, WholeBefore}
-use Rattle.cells.specs.Traces.{first-of, second-of, Leads, Cells, Solved, Attains, SeriesAttains, ParallelAttains, Traces, Picked, Reaches, RootAttains, EndsLead, RootTraces}
+use Rattle.cells.specs.LineUp.{Same, Before, NotAfter, Alike, WholeBefore}
+use Rattle.cells.specs.Traces.{first-of, second-of, Cells, Solved, SeriesAttains, ParallelAttains, Traces, Picked, Reaches, RootAttains, RootTraces}
 use Rattle.cells.proofs.Pieces.{left-on, right-on, inner-on, on-cases}
 use Rattle.cells.proofs.Gluing.{series-has-middle, series-first, series-second, series-both, parallel-first, parallel-second, parallel-both, series-whole, parallel-whole}
 use Rattle.cells.proofs.Cells.{sum-not-above, mid-size, figure-size, choice-size}
 use Rattle.cells.proofs.Root.{whole-hours-is, whole-figure-is, whole-records}
-use Rattle.cells.proofs.Order.{same-series, same-parallel, first-unique}
+use Rattle.cells.proofs.Order.{same-series, same-parallel}
 
 module _ {F : Type 0} {nil : F} {plus : F → F → F} {above : F → F → Bool} {size : F → ℕ} (laws : Ops nil plus above size) where
   -- sums that are equal have equal parts, where no part is above its like

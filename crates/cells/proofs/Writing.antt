@@ -1,15 +1,13 @@
 -- A trace that writes its states one after another. Assumes nothing.
-use mathlib.Core.Path.{_≡_, refl, sym, ap, _∙_, subst}
-use mathlib.Core.Bool.{Bool, true, false, cond, _||_}
-use mathlib.Core.Logic.{_⊎_, inl, inr, ⊎-elim}
-use Prim.Native.Nat.{ℕ, _+_, _<_, _≤_}
-use Rattle.std.proofs.shelf.Tests.{both-ways, or-parts, cases-bool, or-right, eqb-false}
-use Rattle.std.specs.declared.option.Option.{Option}
-use Rattle.std.specs.declared.option.Option.the-variants.{Some}
-use Rattle.plant.specs.Trees.{Net, Tree, leaf, series, parallel, left, right, inner, station-of, Builds}
+use mathlib.Core.Path.{_≡_, sym, _∙_, subst}
+use mathlib.Core.Bool.{Bool, true, false, _||_}
+use mathlib.Core.Logic.{_⊎_, ⊎-elim}
+use Prim.Native.Nat.{ℕ}
+use Rattle.std.proofs.shelf.Tests.{or-parts, cases-bool, eqb-false}
+use Rattle.plant.specs.Trees.{Tree, leaf, series, parallel, left, right, inner, station-of, Builds}
 use Rattle.plant.specs.Selections.{Selection}
 use Rattle.cells.specs.Inside.{Site, Scores}
-use Rattle.cells.specs.Traces.{first-of, second-of, Leads, Cells, SeriesAttains, ParallelAttains, Traces}
+use Rattle.cells.specs.Traces.{first-of, second-of, Leads, Cells, SeriesAttains, Traces}
 use Rattle.cells.proofs.Pieces.{shares, left-on, right-on, inner-on, left-not-inner, right-not-inner}
 use Rattle.cells.proofs.Gluing.{Agree, series-has-middle, first-in-series, second-in-series, first-in-parallel, second-in-parallel}
 

@@ -1,6 +1,6 @@
 -- The two kinds of join alike: each goes through the states of a middle, which a parallel join has not. Assumes nothing.
 use mathlib.Core.Path.{_≡_}
-use mathlib.Core.Bool.{Bool, true, false, not}
+use mathlib.Core.Bool.{Bool, true, not}
 use Prim.Native.Nat.{ℕ}
 use Rattle.std.specs.declared.option.Option.{Option}
 use Rattle.plant.specs.declared.tree.Join.{Join}

@@ -1,11 +1,10 @@
 -- Where the cells lie in memory, and when they are right. Assumes nothing.
 use mathlib.Core.Path.{_≡_}
-use mathlib.Core.Bool.{Bool, true, false, cond}
+use mathlib.Core.Bool.{Bool, cond}
 use mathlib.Core.List.{List}
 use Prim.Native.Nat.{ℕ, _+_, _-_, _*_, _<_, _≤_, min}
-use lib.ListN.{length, getD, take, drop}
+use lib.ListN.{getD}
 use Rattle.std.specs.declared.option.Option.{Option}
-use Rattle.std.specs.declared.option.Option.the-variants.{Some, None}
 use Rattle.plant.specs.Trees.{Tree, leaf, series, parallel, right}
 use Rattle.cells.specs.Tops.{Tops, cell-of}
 use Rattle.cells.specs.Inside.{Site, Scores, Choice}

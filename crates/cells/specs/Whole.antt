@@ -1,11 +1,11 @@
 -- The whole plant by number, and what is read off the cells of its root. Assumes nothing.
 use mathlib.Core.Path.{_≡_}
-use mathlib.Core.Bool.{Bool, true, false, cond}
+use mathlib.Core.Bool.{Bool, true, cond}
 use Prim.Native.Nat.{ℕ, _+_, _<_, _≤_}
 use Rattle.std.specs.declared.option.Option.{Option}
 use Rattle.std.specs.declared.option.Option.the-variants.{Some}
 use Rattle.plant.specs.Selections.{Selection, upto}
-use Rattle.plant.specs.Trees.{Net, Tree, left, right, inner, station-of, uses, Builds}
+use Rattle.plant.specs.Trees.{Tree, left, right, station-of, uses, Builds}
 use Rattle.cells.specs.Inside.{Site, Scores, line-of, mid-figure, mid-hours}
 
 abbrev pub sum-upto : (ℕ → ℕ) → ℕ → ℕ

@@ -1,4 +1,6 @@
 // Many small plants, every selection of each tried, compared with what the planner picks.
+use links::Links;
+use links::LinksYardstick;
 use plan::Plan;
 use plant::records::Hold;
 use plant::refusal::Reason;
@@ -20,6 +22,7 @@ use yardsticks::urgent::UrgentFirst;
 use yardsticks::urgent::UrgentFirstYardstick;
 use yardsticks::yardstick::Yardstick;
 
+mod links;
 mod random;
 mod sample;
 mod truth;
@@ -132,6 +135,9 @@ fn compare(
             count(&mut tally.wrong);
         }
         if !agrees(plan, sample, &Money {}, Rank::Money, cells, tally) {
+            count(&mut tally.wrong);
+        }
+        if !agrees(plan, sample, &Links {}, Rank::Links, cells, tally) {
             count(&mut tally.wrong);
         }
         if !agrees(

@@ -8,6 +8,7 @@ use std::cmp::Ordering;
 pub enum Rank {
     Money,
     UrgentFirst,
+    Links,
 }
 
 #[derive(Clone, Copy)]
@@ -15,6 +16,7 @@ pub struct Totals {
     pub hours: u32,
     pub gain: i64,
     pub urgent: i64,
+    pub links: i64,
 }
 
 pub fn has(selection: u64, i: usize) -> bool {
@@ -34,10 +36,12 @@ fn hours_within(sample: &Sample, selection: u64) -> u32 {
 pub fn totals_of(sample: &Sample, selection: u64) -> Totals {
     let mut gain = 0i64;
     let mut urgent = 0i64;
+    let mut links = 0i64;
 
     for (i, spot) in sample.spots.as_slice().iter().enumerate() {
         if has(selection, i) {
             gain = gain.saturating_add(spot.gain);
+            links = links.saturating_sub(1);
 
             if spot.urgent {
                 urgent = urgent.saturating_add(1);
@@ -47,12 +51,14 @@ pub fn totals_of(sample: &Sample, selection: u64) -> Totals {
     for wire in sample.wires.as_slice() {
         if has(selection, wire.from) && has(selection, wire.to) {
             gain = gain.saturating_add(wire.gain);
+            links = links.saturating_add(1);
         }
     }
     Totals {
         hours: hours_within(sample, selection),
         gain,
         urgent,
+        links,
     }
 }
 
@@ -74,6 +80,7 @@ fn by_rank(rank: Rank, a: &Totals, b: &Totals) -> Ordering {
     match rank {
         Rank::Money => a.gain.cmp(&b.gain),
         Rank::UrgentFirst => a.urgent.cmp(&b.urgent).then(a.gain.cmp(&b.gain)),
+        Rank::Links => a.links.cmp(&b.links),
     }
 }
 

@@ -1,8 +1,8 @@
 -- The four rows of a node, one after the other. Assumes nothing.
-use mathlib.Core.Path.{_≡_, refl, sym, ap, _∙_, subst}
+use mathlib.Core.Path.{_≡_, refl, _∙_, subst}
 use mathlib.Core.Bool.{Bool, true, false}
 use mathlib.Core.List.{List}
-use mathlib.Core.Logic.{_⊎_, inl, inr, ⊎-elim, _≢_}
+use mathlib.Core.Logic.{_⊎_, ⊎-elim, _≢_}
 use Prim.Native.Nat.{ℕ, _+_, _-_, _*_, _<_, _≤_, min}
 use native.Mathlib.Omega.{arith}
 use native.Mathlib.Nat.{add-mul, mul-le-mul-right}
@@ -10,16 +10,15 @@ use lib.ListN.{length, getD, set, length-set}
 use lib.Seq.{getD-set-same, getD-set-other}
 use Rattle.std.proofs.shelf.Tests.{cases-lt}
 use Rattle.std.specs.declared.option.Option.{Option}
-use Rattle.std.specs.declared.option.Option.the-variants.{Some, None}
 use Rattle.plant.specs.declared.records.Station.{Station}
 use Rattle.plant.specs.declared.records.Line.{Line}
 use Rattle.plant.specs.declared.site.Plant.{Plant}
 use Rattle.cells.specs.Inside.{Choice}
 use Rattle.cells.specs.Subtrees.{sub}
-use Rattle.cells.specs.Tables.{bit, place, row-start, memory, most, need-of}
-use Rattle.cells.specs.Tops.{Tops, cell-of}
-use Rattle.cells.proofs.Filling.{row-before, place-before}
-use Rattle.filling.specs.Sites.{site, scores, tree, Ready, Filled, Known, RowFilled, NodesFilled}
+use Rattle.cells.specs.Tables.{bit, place, memory, most, need-of}
+use Rattle.cells.specs.Tops.{Tops}
+use Rattle.cells.proofs.Filling.{row-before}
+use Rattle.filling.specs.Sites.{site, scores, tree, Filled, Known, RowFilled, NodesFilled}
 use Rattle.filling.proofs.Standing.{filled-kept}
 
 module _ {F : Type 0} {nil : F} {plus : F → F → F} {above : F → F → Bool} {f : Station → F} {g : Line → F} (p : Plant) where

@@ -1,5 +1,5 @@
 -- Rows that are cut at their reach, and the join through one state and through both. Assumes nothing.
-use mathlib.Core.Path.{_≡_, refl, sym, ap, _∙_, subst}
+use mathlib.Core.Path.{_≡_, refl, sym, _∙_, subst}
 use mathlib.Core.Bool.{Bool, true, false}
 use mathlib.Core.List.{List}
 use mathlib.Core.Logic.{_⊎_, inl, inr, ⊎-elim}
@@ -13,13 +13,13 @@ use Rattle.plant.specs.declared.records.Line.{Line}
 use Rattle.plant.specs.declared.tree.Join.{Join}
 use Rattle.plant.specs.declared.site.Plant.{Plant}
 use Rattle.plant.specs.Nodes.{joined}
-use Rattle.plant.specs.Trees.{Tree, leaf, right, Builds}
+use Rattle.plant.specs.Trees.{Tree, leaf, Builds}
 use Rattle.yardsticks.specs.Laws.{Laws, limit, record-limit}
 use Rattle.cells.specs.Inside.{Choice, records}
 use Rattle.cells.specs.Joins.{first-right, second-left, passes, between-figure, between-hours, Through}
 use Rattle.cells.specs.Subtrees.{sub}
-use Rattle.cells.specs.Tables.{place, row-start, memory, most}
-use Rattle.cells.specs.Tops.{Tops, Split, Fair, cell-of, better-of}
+use Rattle.cells.specs.Tables.{row-start, memory, most}
+use Rattle.cells.specs.Tops.{Tops, Fair, cell-of, better-of}
 use Rattle.cells.proofs.Filling.{past-none, tops-absent, join-tops, join-fair}
 use Rattle.cells.proofs.Rows.{cut-same, split-same}
 use Rattle.cells.proofs.Topping.{order, some-is, tops-none, tops-same, tops-better, held-within}

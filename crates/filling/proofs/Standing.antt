@@ -2,26 +2,23 @@
 use mathlib.Core.Path.{_≡_, refl, sym, ap, _∙_, subst}
 use mathlib.Core.Bool.{Bool, true, false}
 use mathlib.Core.List.{List}
-use mathlib.Core.Logic.{_⊎_, inl, inr, ⊎-elim}
 use Prim.Native.Nat.{ℕ, _+_, _-_, _*_, _<_, _≤_, min}
 use native.Mathlib.Omega.{arith}
 use native.Mathlib.Nat.{mul-le-mul-right}
 use lib.ListN.{length, getD}
 use Rattle.std.specs.declared.option.Option.{Option}
-use Rattle.std.specs.declared.option.Option.the-variants.{Some, None}
 use Rattle.plant.specs.declared.records.Station.{Station}
 use Rattle.plant.specs.declared.records.Line.{Line}
 use Rattle.plant.specs.declared.tree.Join.{Join}
 use Rattle.plant.specs.declared.tree.Join.the-variants.{Series, Parallel}
-use Rattle.plant.specs.declared.tree.Shape.{Shape}
 use Rattle.plant.specs.declared.tree.Shape.the-variants as S
 use Rattle.plant.specs.declared.tree.Node.{Node}
 use Rattle.plant.specs.declared.site.Plant.{Plant}
 use Rattle.plant.specs.Nodes.{size, node, numbered, no-node, joined}
-use Rattle.plant.specs.Trees.{Net, Tree, leaf, series, parallel, left, right, inner, station-of, Builds}
-use Rattle.yardsticks.specs.Laws.{Laws, Ops, limit, record-limit}
-use Rattle.cells.specs.Inside.{Site, Scores, Choice, Modest, records, line-of}
-use Rattle.cells.specs.Subtrees.{sub, leaves}
+use Rattle.plant.specs.Trees.{Tree, leaf, left, right, inner, Builds}
+use Rattle.yardsticks.specs.Laws.{Laws, limit, record-limit}
+use Rattle.cells.specs.Inside.{Site, Modest, records, line-of}
+use Rattle.cells.specs.Subtrees.{sub}
 use Rattle.cells.specs.Tables.{bit, row-start, need-of, most}
 use Rattle.cells.specs.Tops.{cell-of}
 use Rattle.cells.specs.Joins.{between-hours}
@@ -33,7 +30,7 @@ use Rattle.cells.proofs.Filling.{row-within, bit-small, done-kept}
 use Rattle.cells.proofs.Leaves.{draws-whole, scores-modest, ends-within, inner-within}
 use Rattle.cells.proofs.Pieces.{left-on, right-on}
 use Rattle.cells.proofs.Root.{whole-records}
-use Rattle.cells.proofs.Subtrees.{Place, at-leaf, at-join, place, numbered-length, sub-builds, sub-records, sub-lines, sub-once, sub-last, size-join, size-pos as pos-size}
+use Rattle.cells.proofs.Subtrees.{Place, at-leaf, at-join, place, numbered-length, sub-builds, sub-records, sub-lines, sub-last, size-pos as pos-size}
 use Rattle.filling.specs.Sites.{site, scores, tree, middle, Ready, Filled, Known, HalvesAt}
 
 module _ (p : Plant) (ready : Ready p) where

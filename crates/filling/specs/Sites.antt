@@ -1,6 +1,6 @@
 -- A plant that is lent, as the tables see it, and what stands while they are filled. Assumes nothing.
 use mathlib.Core.Path.{_≡_}
-use mathlib.Core.Bool.{Bool, true, false, cond}
+use mathlib.Core.Bool.{Bool, true, cond}
 use lib.Dec.{eqb}
 use mathlib.Core.List.{List}
 use Prim.Native.Nat.{ℕ, _+_, _*_, _<_, _≤_}
@@ -10,15 +10,14 @@ use Rattle.std.specs.declared.option.Option.the-variants.{Some, None}
 use Rattle.plant.specs.declared.records.Station.{Station}
 use Rattle.plant.specs.declared.records.Line.{Line}
 use Rattle.plant.specs.declared.tree.Join.{Join}
-use Rattle.plant.specs.declared.tree.Node.{Node}
 use Rattle.plant.specs.declared.tree.Shape.the-variants as S
 use Rattle.plant.specs.declared.site.Plant.{Plant}
-use Rattle.plant.specs.Nodes.{IsPlant, tree-of, size, no-node, joined}
+use Rattle.plant.specs.Nodes.{IsPlant, tree-of, no-node, joined}
 use Rattle.plant.specs.Records.{max-hours}
 use Rattle.plant.specs.Trees.{Tree, right}
 use Rattle.cells.specs.Traces.{first-of, second-of}
 use Rattle.cells.specs.Inside.{Site, Scores, site-of, scores-of, Choice}
-use Rattle.cells.specs.Joins.{first-right, second-left, passes, between-figure, between-hours, Through}
+use Rattle.cells.specs.Joins.{first-right, second-left, passes, between-figure, between-hours}
 use Rattle.cells.specs.Subtrees.{sub}
 use Rattle.cells.specs.Tables.{Done, Reached, memory, need-of, row-start}
 use Rattle.cells.specs.Tops.{Tops, Split, cell-of}

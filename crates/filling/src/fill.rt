@@ -1,17 +1,16 @@
 // Filling the tables, node by node in the order of their numbers.
 ghost use mathlib.Core.Path.{_≡_};
-ghost use mathlib.Core.Bool.{true, false, cond};
-ghost use Prim.Native.Nat.{ℕ, _+_, _-_, _*_, _<_, _≤_, min};
+ghost use mathlib.Core.Bool.{true, false};
+ghost use Prim.Native.Nat.{_+_, _-_, _<_, _≤_, min};
 ghost use lib.ListN.{length, getD};
 ghost use Rattle.std.specs.declared.option.Option.the-variants.{Some, None};
 ghost use Rattle.plant.specs.Nodes.{no-node};
-ghost use Rattle.plant.specs.Records.{StationsInRange, LinesInRange, line as lineAt};
-ghost use Rattle.yardsticks.specs.Laws.{limit};
-ghost use Rattle.cells.specs.Inside.{mid-figure, mid-hours, Choice};
-ghost use Rattle.cells.specs.Joins.{first-right, second-left, passes, between-figure, between-hours, Through};
+ghost use Rattle.plant.specs.Records.{line as lineAt};
+ghost use Rattle.cells.specs.Inside.{Choice};
+ghost use Rattle.cells.specs.Joins.{first-right, second-left, passes, between-figure, between-hours};
 ghost use Rattle.cells.specs.Subtrees.{sub};
-ghost use Rattle.cells.specs.Tables.{memory, most, row-start, place, need-of};
-ghost use Rattle.cells.specs.Tops.{Tops, Split, cell-of};
+ghost use Rattle.cells.specs.Tables.{most, need-of};
+ghost use Rattle.cells.specs.Tops.{Tops};
 ghost use Rattle.filling.specs.Sites.{site, scores, tree, Ready, Filled, Known, HalvesAt, Passing, middle, leaf-cell, RowFilled, NodesFilled};
 use joins::cell::Cell;
 use joins::cell::Spot;

@@ -1,7 +1,7 @@
 // A cell, and where it lies.
 ghost use mathlib.Core.Path.{_≡_};
 ghost use Prim.Native.Nat.{ℕ, _+_, _-_, _*_, _<_, _≤_};
-ghost use lib.ListN.{length, getD, set};
+ghost use lib.ListN.{length, set};
 ghost use Rattle.cells.specs.Tables.{bit, row-start, need-of};
 ghost use Rattle.cells.specs.Tops.{cell-of};
 

@@ -1,10 +1,9 @@
 // The join of two rows of cells. The index of a row is a number that adds up: the hours.
 ghost use mathlib.Core.Path.{_≡_};
-ghost use mathlib.Core.Bool.{true, false, cond};
-ghost use Prim.Native.Nat.{ℕ, _+_, _-_, _*_, _<_, _≤_, min};
-ghost use lib.ListN.{length, getD};
+ghost use mathlib.Core.Bool.{true};
+ghost use Prim.Native.Nat.{_+_, _-_, _<_, _≤_, min};
+ghost use lib.ListN.{length};
 ghost use Rattle.std.specs.declared.option.Option.the-variants.{Some, None};
-ghost use Rattle.std.specs.Orderings.{Decides};
 ghost use Rattle.plant.specs.Records.{StationInRange, allows};
 ghost use Rattle.yardsticks.specs.Laws.{limit};
 ghost use Rattle.cells.specs.Tops.{Tops, Split, Fair, cell-of, better-of, joined-of};

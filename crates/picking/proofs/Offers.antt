@@ -7,13 +7,13 @@ use Prim.Native.Nat.{ℕ, _+_, _-_, _<_, _≤_}
 use native.Mathlib.Omega.{arith}
 use lib.Dec.{ltb}
 use lib.ListN.{length}
-use Rattle.std.proofs.shelf.Tests.{cases-lt, cases-bool, both-ways, ltb-true, ltb-false, lt-ltb, le-ltb, cond-true, cond-false}
+use Rattle.std.proofs.shelf.Tests.{cases-lt, cases-bool, both-ways, ltb-true, ltb-false, cond-true, cond-false}
 use Rattle.std.specs.declared.option.Option.{Option}
 use Rattle.std.specs.declared.option.Option.the-variants.{Some, None}
 use Rattle.cells.specs.LineUp.{Shut-before}
 use Rattle.cells.specs.Tops.{Order, better-of, cell-of}
 use Rattle.cells.specs.Traces.{EndsLead}
-use Rattle.cells.proofs.Topping.{Below, none-some, some-is, not-above-chain, above-one-way, held-within}
+use Rattle.cells.proofs.Topping.{none-some, some-is, not-above-chain, above-one-way, held-within}
 use Rattle.joins.specs.declared.cell.Spot.{Spot}
 use Rattle.picking.specs.declared.offer.Offer.{Offer}
 use Rattle.joins.specs.declared.share.Share.{Share}

@@ -1,23 +1,22 @@
 -- The root's offers: their sizes, and what the leading one says of the selections that fit. Assumes nothing.
-use mathlib.Core.Path.{_≡_, refl, sym, ap, _∙_, subst}
+use mathlib.Core.Path.{_≡_, ap, subst}
 use mathlib.Core.Bool.{Bool, true, false, cond}
 use mathlib.Core.List.{List}
-use mathlib.Core.Logic.{_⊎_, inl, inr, ⊎-elim}
-use Prim.Native.Nat.{ℕ, _+_, _-_, _*_, _<_, _≤_}
+use mathlib.Core.Logic.{_⊎_, ⊎-elim}
+use Prim.Native.Nat.{ℕ, _+_, _-_, _≤_}
 use native.Mathlib.Omega.{arith}
-use lib.ListN.{length, getD}
+use lib.ListN.{length}
 use Rattle.std.proofs.shelf.Lists.{getD-past}
 use Rattle.std.proofs.shelf.Tests.{cases-lt}
 use Rattle.std.specs.declared.option.Option.{Option}
-use Rattle.std.specs.declared.option.Option.the-variants.{Some, None}
+use Rattle.std.specs.declared.option.Option.the-variants.{Some}
 use Rattle.plant.specs.declared.records.Station.{Station}
 use Rattle.plant.specs.declared.records.Line.{Line}
 use Rattle.plant.specs.declared.site.Plant.{Plant}
 use Rattle.plant.specs.Records.{station, no-station}
-use Rattle.plant.specs.Trees.{Tree, left, right}
-use Rattle.yardsticks.specs.Laws.{Laws, limit, record-limit}
-use Rattle.cells.specs.Inside.{Choice, records}
-use Rattle.cells.specs.Subtrees.{sub}
+use Rattle.plant.specs.Trees.{Tree}
+use Rattle.yardsticks.specs.Laws.{Laws, limit}
+use Rattle.cells.specs.Inside.{Choice}
 use Rattle.cells.specs.Tables.{memory}
 use Rattle.cells.specs.Tops.{Tops}
 use Rattle.cells.proofs.Cells.{choice-size, mid-size}

@@ -2,13 +2,12 @@
 use mathlib.Core.Path.{_≡_}
 use mathlib.Core.Bool.{Bool, true, false, cond}
 use mathlib.Core.List.{List}
-use Prim.Native.Nat.{ℕ, _+_, _-_, _<_, _≤_}
+use Prim.Native.Nat.{ℕ, _+_, _-_, _≤_}
 use lib.Dec.{ltb}
-use lib.ListN.{length, getD}
+use lib.ListN.{length}
 use Rattle.std.specs.declared.option.Option.{Option}
 use Rattle.std.specs.declared.option.Option.the-variants.{Some, None}
 use Rattle.plant.specs.declared.records.Station.{Station}
-use Rattle.plant.specs.declared.records.Line.{Line}
 use Rattle.plant.specs.declared.site.Plant.{Plant}
 use Rattle.plant.specs.Records.{station}
 use Rattle.plant.specs.Trees.{left, right}

@@ -1,8 +1,8 @@
 // The pick at the root: the highest figure, then the fewest hours, then the left end shut first, then the right end.
 ghost use mathlib.Core.Path.{_≡_};
-ghost use mathlib.Core.Bool.{true, false, cond};
-ghost use Prim.Native.Nat.{ℕ, _+_, _-_, _*_, _^_, _<_, _≤_};
-ghost use lib.ListN.{length, getD};
+ghost use mathlib.Core.Bool.{true, false};
+ghost use Prim.Native.Nat.{_+_, _-_, _^_, _<_, _≤_};
+ghost use lib.ListN.{length};
 ghost use Rattle.std.specs.declared.option.Option.the-variants.{Some, None};
 ghost use Rattle.plant.specs.Trees.{left as leftEnd, right as rightEnd};
 ghost use Rattle.yardsticks.specs.Laws.{limit};

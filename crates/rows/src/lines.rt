@@ -22,6 +22,9 @@ pub struct LineRows {
 
 const COLUMNS: usize = 4;
 
+// The number of the last row that is taken.
+const MOST: usize = MAX_LINES;
+
 fn are_titles(a: &[u8], b: &[u8], c: &[u8], d: &[u8]) -> bool
     ensures { λ r. ⌜ r ≡ titled (meaning (now (a .entry))) (meaning (now (b .entry))) (meaning (now (c .entry))) (meaning (now (d .entry))) ⌝ }
 {
@@ -108,7 +111,7 @@ pub impl Kind for LineRows as LineRowsKind {
     }
 
     fn judge(&self, k: usize, fields: &Fields<'_>) -> Result<Line, Reason> {
-        if k > MAX_LINES {
+        if k > MOST {
             return Err(Reason::RowCount);
         }
         if fields.count != COLUMNS {

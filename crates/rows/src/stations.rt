@@ -19,6 +19,9 @@ pub struct StationRows {}
 
 const COLUMNS: usize = 5;
 
+// The number of the last row that is taken.
+const MOST: usize = MAX_STATIONS;
+
 fn are_titles(a: &[u8], b: &[u8], c: &[u8], d: &[u8], e: &[u8]) -> bool
     ensures { λ r. ⌜ r ≡ titled (meaning (now (a .entry))) (meaning (now (b .entry))) (meaning (now (c .entry))) (meaning (now (d .entry))) (meaning (now (e .entry))) ⌝ }
 {
@@ -109,7 +112,7 @@ pub impl Kind for StationRows as StationRowsKind {
     }
 
     fn judge(&self, k: usize, fields: &Fields<'_>) -> Result<Station, Reason> {
-        if k > MAX_STATIONS {
+        if k > MOST {
             return Err(Reason::RowCount);
         }
         if fields.count != COLUMNS {

@@ -1,42 +1,38 @@
 -- The leading offer, traced down, is the best list. Assumes nothing.
 use mathlib.Core.Path.{_≡_, refl, sym, ap, _∙_, subst}
-use mathlib.Core.Bool.{Bool, true, false, cond}
+use mathlib.Core.Bool.{Bool, false}
 use mathlib.Core.List.{List}
-use mathlib.Core.Logic.{_⊎_, inl, inr, ⊎-elim}
-use Prim.Native.Nat.{ℕ, _+_, _-_, _*_, _<_, _≤_}
+use Prim.Native.Nat.{ℕ, _+_, _-_, _*_, _≤_}
 use native.Mathlib.Omega.{arith}
-use lib.ListN.{length, getD}
+use lib.ListN.{length}
 use Rattle.std.specs.declared.option.Option.{Option}
 use Rattle.std.specs.declared.option.Option.the-variants.{Some, None}
 use Rattle.plant.specs.declared.records.Station.{Station}
 use Rattle.plant.specs.declared.records.Line.{Line}
 use Rattle.plant.specs.declared.site.Plant.{Plant}
-use Rattle.plant.specs.Nodes.{size}
 use Rattle.plant.specs.Selections.{Selection, Fits, figure, hours}
 use Rattle.plant.specs.Trees.{Tree, left, right}
 use Rattle.yardsticks.specs.Laws.{Laws, limit, record-limit}
 use Rattle.cells.specs.Best.{Best}
-use Rattle.cells.specs.Cell.{CellChoice}
-use Rattle.cells.specs.Inside.{Choice, records, mid-figure, mid-hours, inner-hours}
-use Rattle.cells.specs.LineUp.{WholeBefore, Alike}
+use Rattle.cells.specs.Inside.{mid-hours}
 use Rattle.cells.specs.Subtrees.{sub}
-use Rattle.cells.specs.Tables.{memory, place, need-of}
-use Rattle.cells.specs.Tops.{Tops, cell-of}
+use Rattle.cells.specs.Tables.{memory}
+use Rattle.cells.specs.Tops.{Tops}
 use Rattle.cells.specs.Traces.{Solved, Traces, EndsLead, RootAttains, RootTraces}
-use Rattle.cells.specs.Whole.{Whole, RootPairs, Fits as FitsSite, whole-hours}
-use Rattle.cells.proofs.Answering.{Answers, answer, nothing-fits, fits-attains}
+use Rattle.cells.specs.Whole.{RootPairs, Fits as FitsSite}
+use Rattle.cells.proofs.Answering.{answer, nothing-fits, fits-attains}
 use Rattle.cells.proofs.Numbers.{cell-best}
 use Rattle.cells.proofs.Topping.{none-some, some-is}
 use Rattle.cells.proofs.Tracing.{traced}
 use Rattle.cells.proofs.Subtrees.{sub-once, sub-lines}
 use Rattle.joins.specs.declared.cell.Spot.{Spot}
 use Rattle.picking.specs.declared.offer.Offer.{Offer}
-use Rattle.picking.specs.Offers.{Offered, RootOffers, Leads, Leading, root, share-at}
-use Rattle.solver.specs.Pending.{Traced, tree-at, Holds}
+use Rattle.picking.specs.Offers.{RootOffers, Leads, Leading, root}
+use Rattle.solver.specs.Pending.{Traced, Holds}
 use Rattle.filling.specs.Sites.{site, scores, tree, Ready, Filled, NodesFilled}
-use Rattle.solver.specs.Solutions.{needs, Tables}
+use Rattle.solver.specs.Solutions.{Tables}
 use Rattle.solver.proofs.Solving.{solved}
-use Rattle.filling.proofs.Standing.{whole, modest, few-records, few-sub, sub-stands, inner-in, root-tree, some-nodes, need-is}
+use Rattle.filling.proofs.Standing.{whole, modest, few-records, sub-stands, inner-in, root-tree, some-nodes, need-is}
 
 module _ {F : Type 0} {f : Station → F} {g : Line → F} {nil : F} {plus : F → F → F} {above : F → F → Bool} {sz : F → ℕ} (laws : Laws f g nil plus above sz) (p : Plant) (ready : Ready p) where
   few-all : (length (p .stations .now) + length (p .lines .now)) * record-limit ≤ limit

@@ -1,12 +1,12 @@
 -- Filled tables solve every node, so a cell that holds something has a split. Assumes nothing.
 use mathlib.Core.Path.{_≡_, refl, sym, ap, _∙_, subst}
-use mathlib.Core.Bool.{Bool, true, false, cond}
+use mathlib.Core.Bool.{Bool, true, false}
 use mathlib.Core.List.{List}
 use Prim.Native.Nat.{ℕ, _+_, _-_, _*_, _<_, _≤_}
 use native.Mathlib.Omega.{arith}
 use lib.ListN.{length}
 use Rattle.std.specs.declared.option.Option.{Option}
-use Rattle.std.specs.declared.option.Option.the-variants.{Some, None}
+use Rattle.std.specs.declared.option.Option.the-variants.{Some}
 use Rattle.plant.specs.declared.records.Station.{Station}
 use Rattle.plant.specs.declared.records.Line.{Line}
 use Rattle.plant.specs.declared.site.Plant.{Plant}
@@ -15,15 +15,15 @@ use Rattle.plant.specs.declared.tree.Join.the-variants.{Series, Parallel}
 use Rattle.plant.specs.Nodes.{size, joined}
 use Rattle.plant.specs.Trees.{Net, Tree, leaf, series, parallel, right, Builds}
 use Rattle.yardsticks.specs.Laws.{Laws, limit, record-limit}
-use Rattle.cells.specs.Inside.{Site, Scores, Choice, records, Modest, inner-hours}
+use Rattle.cells.specs.Inside.{Choice, records, inner-hours}
 use Rattle.cells.specs.Joins.{first-right, second-left, passes, between-figure, between-hours}
 use Rattle.cells.specs.Subtrees.{sub}
 use Rattle.cells.specs.Tables.{memory}
 use Rattle.cells.specs.Tops.{Tops}
-use Rattle.cells.specs.Traces.{Cells, first-of, second-of, Attains, Solved}
+use Rattle.cells.specs.Traces.{first-of, second-of, Attains, Solved}
 use Rattle.cells.proofs.Subtrees.{Place, at-leaf, at-join, place}
 use Rattle.cells.proofs.Tracing.{series-attains, parallel-attains}
-use Rattle.filling.specs.Sites.{site, scores, tree, middle, Ready, Filled, HalvesAt}
+use Rattle.filling.specs.Sites.{site, scores, tree, Ready, Filled, HalvesAt}
 use Rattle.solver.specs.Splits.{PassAttains}
 use Rattle.filling.proofs.Standing.{node-count, modest, few-sub, sub-stands}
 

@@ -1,15 +1,13 @@
 -- The first split that attains a cell, state by state and hour by hour. Assumes nothing.
 use mathlib.Core.Path.{_≡_, refl, sym, ap, _∙_, subst}
-use mathlib.Core.Bool.{Bool, true, false, cond}
+use mathlib.Core.Bool.{Bool, true, false}
 use mathlib.Core.List.{List}
 use mathlib.Core.Logic.{_⊎_, inl, inr, ⊎-elim}
 use Prim.Native.Nat.{ℕ, _+_, _-_, _*_, _<_, _≤_}
 use native.Mathlib.Omega.{arith}
-use lib.Dec.{eqb}
-use lib.ListN.{length, getD}
-use Rattle.std.proofs.shelf.Tests.{cases-bool, cases-lt, cases-eq, cond-true, cond-false, eq-eqb, ne-eqb, eqb-true}
+use Rattle.std.proofs.shelf.Tests.{cases-bool, cases-lt, cond-true, cond-false}
 use Rattle.std.specs.declared.option.Option.{Option}
-use Rattle.std.specs.declared.option.Option.the-variants.{Some, None}
+use Rattle.std.specs.declared.option.Option.the-variants.{Some}
 use Rattle.plant.specs.declared.records.Station.{Station}
 use Rattle.plant.specs.declared.records.Line.{Line}
 use Rattle.plant.specs.declared.tree.Join.{Join}
@@ -17,18 +15,16 @@ use Rattle.plant.specs.declared.site.Plant.{Plant}
 use Rattle.plant.specs.Nodes.{joined}
 use Rattle.plant.specs.Trees.{Tree}
 use Rattle.yardsticks.specs.Laws.{Laws, limit, record-limit}
-use Rattle.cells.specs.Inside.{Choice, records}
+use Rattle.cells.specs.Inside.{records}
 use Rattle.cells.specs.Joins.{first-right, second-left, passes, between-figure, between-hours}
 use Rattle.cells.specs.Subtrees.{sub}
-use Rattle.cells.specs.Tables.{row-start, memory}
-use Rattle.cells.specs.Tops.{Tops, cell-of, joined-of}
-use Rattle.cells.specs.Traces.{Attains, Leads}
+use Rattle.cells.specs.Tables.{row-start}
+use Rattle.cells.specs.Tops.{cell-of, joined-of}
 use Rattle.cells.proofs.Filling.{join-fair}
-use Rattle.cells.proofs.Topping.{none-some, joined-parts}
+use Rattle.cells.proofs.Topping.{joined-parts}
 use Rattle.joins.specs.declared.share.Share.{Share}
-use Rattle.solver.specs.declared.split.Split.{Split}
 use Rattle.filling.specs.Sites.{site, scores, tree, middle, Ready, Filled, HalvesAt}
-use Rattle.solver.specs.Splits.{ways, PassAttains, FirstSplit, NoSplit}
+use Rattle.solver.specs.Splits.{ways, PassAttains, FirstSplit}
 use Rattle.filling.proofs.Standing.{modest, few-sub}
 
 states : (m m′ : Bool) → (m ≡ m′) ⊎ (((m ≡ false) × (m′ ≡ true)) ⊎ ((m′ ≡ false) × (m ≡ true)))

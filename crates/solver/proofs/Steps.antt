@@ -1,16 +1,15 @@
 -- A traced join: its halves are apart, its middle is settled, and its first split leads on. Assumes nothing.
 use mathlib.Core.Path.{_≡_, refl, sym, ap, _∙_, subst}
-use mathlib.Core.Bool.{Bool, true, false, cond, _||_, not}
+use mathlib.Core.Bool.{Bool, true, false}
 use mathlib.Core.List.{List, [], _∷_, _++_}
-use mathlib.Core.Logic.{_⊎_, inl, inr, ⊎-elim, _≢_}
-use Prim.Native.Nat.{ℕ, _+_, _-_, _*_, _<_, _≤_}
+use mathlib.Core.Logic.{_⊎_, ⊎-elim}
+use Prim.Native.Nat.{ℕ, _+_, _-_, _<_, _≤_}
 use native.Mathlib.Omega.{arith}
-use lib.Dec.{eqb}
 use lib.ListN.{length, getD, set, length-set}
 use Rattle.std.proofs.shelf.Lists.{getD-set-same, getD-set-other}
-use Rattle.std.proofs.shelf.Tests.{cases-bool, both-ways, or-left, or-right, or-cases, eq-eqb}
+use Rattle.std.proofs.shelf.Tests.{cases-bool, both-ways, or-left, or-right}
 use Rattle.std.specs.declared.option.Option.{Option}
-use Rattle.std.specs.declared.option.Option.the-variants.{Some, None}
+use Rattle.std.specs.declared.option.Option.the-variants.{Some}
 use Rattle.plant.specs.declared.records.Station.{Station}
 use Rattle.plant.specs.declared.records.Line.{Line}
 use Rattle.plant.specs.declared.site.Plant.{Plant}
@@ -18,7 +17,7 @@ use Rattle.plant.specs.declared.tree.Join.{Join}
 use Rattle.plant.specs.declared.tree.Join.the-variants.{Series, Parallel}
 use Rattle.plant.specs.Nodes.{size, joined}
 use Rattle.plant.specs.Selections.{Selection}
-use Rattle.plant.specs.Trees.{Tree, leaf, series, parallel, left, right, inner, station-of, Builds}
+use Rattle.plant.specs.Trees.{Tree, leaf, series, left, right, inner, station-of, Builds}
 use Rattle.yardsticks.specs.Laws.{Laws}
 use Rattle.cells.specs.Inside.{Site, Scores, Choice}
 use Rattle.cells.specs.Joins.{first-right, second-left, passes, between-figure, between-hours}
@@ -27,13 +26,13 @@ use Rattle.cells.specs.Tables.{memory}
 use Rattle.cells.specs.Traces.{Cells, first-of, second-of, Attains, Leads, Traces}
 use Rattle.cells.proofs.Cells.{leaf-parts}
 use Rattle.cells.proofs.Gluing.{series-has-middle, series-has-first, series-has-second, first-in-series, second-in-series, first-in-parallel, second-in-parallel}
-use Rattle.cells.proofs.Pieces.{left-on, right-on, inner-on, ends-differ, left-not-inner, right-not-inner}
+use Rattle.cells.proofs.Pieces.{right-on, ends-differ, left-not-inner, right-not-inner}
 use Rattle.cells.proofs.Writing.{first-inside, second-inside, first-inside-parallel, second-inside-parallel}
 use Rattle.joins.specs.declared.cell.Spot.{Spot}
 use Rattle.solver.specs.declared.split.Split.{Split}
-use Rattle.solver.specs.Pending.{settled, first-spot, second-spot, In, load, tree-at, leaves-at, size-at, Clear, Traced, Entry, Pending, Holds, with-ends}
+use Rattle.solver.specs.Pending.{settled, first-spot, second-spot, load, tree-at, leaves-at, size-at, Entry, Pending, Holds, with-ends}
 use Rattle.filling.specs.Sites.{site, scores, tree, middle, Ready, Filled, HalvesAt}
-use Rattle.solver.specs.Splits.{PassAttains, FirstSplit}
+use Rattle.solver.specs.Splits.{FirstSplit}
 use Rattle.solver.proofs.Pendings.{in-new, load-more, pending-join, pending-leaf}
 use Rattle.filling.proofs.Standing.{sub-stands, whole, root-tree, root-in, some-nodes}
 use Rattle.cells.proofs.Counting.{whole-leaves}

@@ -1,6 +1,6 @@
 -- What solve answers. Assumes nothing.
 use mathlib.Core.Path.{_≡_}
-use mathlib.Core.Bool.{Bool, true, false}
+use mathlib.Core.Bool.{Bool}
 use mathlib.Core.List.{List}
 use mathlib.Core.Logic.{_⊎_}
 use Prim.Native.Nat.{ℕ, _+_, _<_, _≤_}
@@ -10,9 +10,7 @@ use Rattle.std.specs.declared.result.Result.{Result}
 use Rattle.std.specs.declared.result.Result.the-variants.{Ok, Err}
 use Rattle.plant.specs.declared.records.Station.{Station}
 use Rattle.plant.specs.declared.records.Line.{Line}
-use Rattle.plant.specs.declared.refusal.Reason.{Reason}
 use Rattle.plant.specs.declared.refusal.Reason.the-variants.{MemoryTooShort, NothingFits}
-use Rattle.plant.specs.declared.refusal.Part.{Part}
 use Rattle.plant.specs.declared.refusal.Part.the-variants.{Call}
 use Rattle.plant.specs.declared.refusal.Refusal.{Refusal}
 use Rattle.plant.specs.declared.selection.Selection.{Selection as Marks}

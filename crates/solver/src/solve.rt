@@ -1,7 +1,5 @@
 // The whole: refuse, or fill the tables, pick at the root and trace.
-ghost use mathlib.Core.Path.{_≡_};
-ghost use Prim.Native.Nat.{ℕ, _+_, _*_, _<_, _≤_};
-ghost use lib.ListN.{length};
+ghost use Prim.Native.Nat.{_<_, _≤_};
 ghost use Rattle.plant.specs.Nodes.{IsPlant};
 ghost use Rattle.plant.specs.Records.{max-hours};
 ghost use Rattle.solver.specs.Solutions.{Solution};

@@ -1,19 +1,19 @@
 // The trace: from the root's cell down, which stations are open.
 ghost use mathlib.Core.Path.{_≡_};
-ghost use mathlib.Core.Bool.{true, false, cond};
-ghost use Prim.Native.Nat.{ℕ, _+_, _-_, _*_, _^_, _<_, _≤_};
-ghost use lib.ListN.{length, getD};
+ghost use mathlib.Core.Bool.{false};
+ghost use Prim.Native.Nat.{_+_, _-_, _^_, _<_, _≤_};
+ghost use lib.ListN.{length};
 ghost use mathlib.Core.List.{[], _∷_, _++_};
 ghost use Rattle.plant.specs.Held.{held, room, Whole};
 ghost use Rattle.std.specs.Options.{Cases as BySome};
 ghost use Rattle.std.specs.Orderings.{Decides};
 ghost use Rattle.std.specs.declared.option.Option.the-variants.{Some, None};
 ghost use Rattle.yardsticks.specs.Laws.{limit};
-ghost use Rattle.cells.specs.Tops.{cell-of, joined-of};
+ghost use Rattle.cells.specs.Tops.{joined-of};
 ghost use Rattle.plant.specs.Selections.{Wide, among};
-ghost use Rattle.solver.specs.Pending.{settled, first-spot, second-spot, Pending, load, size-at, Holds, SplitOf, Traced, with-ends};
+ghost use Rattle.solver.specs.Pending.{settled, first-spot, second-spot, Pending, Holds, SplitOf, Traced, with-ends};
 ghost use Rattle.picking.specs.Offers.{root as rootOf};
-ghost use Rattle.filling.specs.Sites.{site, scores, tree, middle as middleOf, Ready, Filled, HalvesAt};
+ghost use Rattle.filling.specs.Sites.{middle as middleOf, Ready, Filled, HalvesAt};
 ghost use Rattle.solver.specs.Splits.{ways as waysBy, FirstSplit, NoSplit};
 use crate::split::Split;
 use filling::fill::Halves;

@@ -45,24 +45,36 @@ fn set() -> Result<(), Fail> {
     check_eq(told(plan.set_hold(3, 2)), (0, 0, 0))
 }
 
-#[test]
-fn memory() -> Result<(), Fail> {
+// A solve of the small plant over so many cells, each of which holds a seven: the answer, and the last cell.
+fn solve_over(cells: &mut [Option<i64>], hours: u32) -> (u8, u8, u32) {
     let mut plan = Plan::blank();
-    let mut cells = [Some(7); 200];
-    check_eq(told(plan.solve(&Money {}, &mut cells)), (14, 3, 0))?;
-    check_eq(told(plan.fill(STATIONS, LINES, TREE)), (0, 0, 0))?;
-    check_eq(told(plan.set_hours(6)), (0, 0, 0))?;
-    check_eq(told(plan.solve(&Money {}, &mut cells[0..195])), (2, 3, 196))?;
-    check_eq(cells[0], Some(7))?;
-    check_eq(told(plan.solve(&Money {}, &mut cells)), (0, 0, 0))?;
-    check_eq(cells[196], Some(7))?;
+    if plan.fill(STATIONS, LINES, TREE).is_err() || plan.set_hours(hours).is_err() {
+        return (0, 0, 0);
+    }
+    told(plan.solve(&Money {}, cells))
+}
+
+#[test]
+fn cells() -> Result<(), Fail> {
+    let mut few = [Some(7); 195];
+    check_eq(solve_over(&mut few, 6), (2, 3, 196))?;
+    check_eq(few[0], Some(7))?;
+    let mut enough = [Some(7); 200];
+    check_eq(solve_over(&mut enough, 6), (0, 0, 0))?;
+    check_eq(enough[196], Some(7))
+}
+
+#[test]
+fn bytes() -> Result<(), Fail> {
     let refusal = Refusal {
         reason: Reason::HalvesApart,
         part: Part::Tree,
         place: 15,
     };
+    let mut short = [b'.'; 16];
+    check_eq(told(refusal_line(&refusal, &mut short)), (2, 3, 17))?;
+    check(&short == b"................")?;
     let mut line = [b'.'; 20];
-    check_eq(told(refusal_line(&refusal, &mut line[0..16])), (2, 3, 17))?;
     check_eq(told(refusal_line(&refusal, &mut line)), (0, 0, 0))?;
     check(&line == b"refused,12,2,15\r\n...")
 }

@@ -43,10 +43,19 @@ fn solved<Y: Yardstick>(
     }
 }
 
+fn by_money(plan: &Plan) -> ([bool; 4], u32, i64) {
+    let mut cells = [None; 300];
+    solved(plan, &Money {}, &mut cells)
+}
+
+fn by_urgency(plan: &Plan) -> ([bool; 4], u32, i64) {
+    let mut cells = [None; 300];
+    solved(plan, &UrgentFirst {}, &mut cells)
+}
+
 #[test]
 fn lists() -> Result<(), Fail> {
     let mut plan = Plan::blank();
-    let mut cells = [None; 300];
     check_eq(told(plan.fill(STATIONS, LINES, TREE)), (0, 0, 0))?;
     let table = [
         (0, [false, false, false, false], 0, 0),
@@ -57,7 +66,7 @@ fn lists() -> Result<(), Fail> {
     ];
     for (budget, open, hours, gain) in table {
         check_eq(told(plan.set_hours(budget)), (0, 0, 0))?;
-        check_eq(solved(&plan, &Money {}, &mut cells), (open, hours, gain))?;
+        check_eq(by_money(&plan), (open, hours, gain))?;
     }
     Ok(())
 }
@@ -65,26 +74,15 @@ fn lists() -> Result<(), Fail> {
 #[test]
 fn held_and_urgent() -> Result<(), Fail> {
     let mut plan = Plan::blank();
-    let mut cells = [None; 300];
-    let mut urgent_cells = [None; 300];
     check_eq(told(plan.fill(STATIONS, LINES, TREE)), (0, 0, 0))?;
     check_eq(told(plan.set_hold(0, 1)), (0, 0, 0))?;
     check_eq(told(plan.set_hours(5)), (0, 0, 0))?;
-    check_eq(
-        solved(&plan, &Money {}, &mut cells),
-        ([true, true, false, false], 5, 700),
-    )?;
+    check_eq(by_money(&plan), ([true, true, false, false], 5, 700))?;
     check_eq(told(plan.set_hours(1)), (0, 0, 0))?;
-    check_eq(solved(&plan, &Money {}, &mut cells), ([false; 4], 17, 0))?;
+    check_eq(by_money(&plan), ([false; 4], 17, 0))?;
     check_eq(told(plan.set_hold(0, 0)), (0, 0, 0))?;
     check_eq(told(plan.set_station(0, 2, 100, 1)), (0, 0, 0))?;
     check_eq(told(plan.set_hours(6)), (0, 0, 0))?;
-    check_eq(
-        solved(&plan, &UrgentFirst {}, &mut urgent_cells),
-        ([true, true, false, false], 5, 700),
-    )?;
-    check_eq(
-        solved(&plan, &Money {}, &mut cells),
-        ([false, true, true, false], 6, 900),
-    )
+    check_eq(by_urgency(&plan), ([true, true, false, false], 5, 700))?;
+    check_eq(by_money(&plan), ([false, true, true, false], 6, 900))
 }

@@ -1,19 +1,18 @@
 -- Sums by number: their sizes, and the urgent pair as two sums. Assumes nothing.
-use mathlib.Core.Path.{_≡_, refl, sym, ap, _∙_}
+use mathlib.Core.Path.{_≡_, refl, ap}
 use mathlib.Core.Bool.{Bool, true, false, cond}
 use mathlib.Core.List.{List}
-use Prim.Native.Nat.{ℕ, zero, suc, _+_, _*_, _<_, _≤_}
+use Prim.Native.Nat.{ℕ, zero, suc, _+_, _*_, _≤_}
 use native.Mathlib.Omega.{arith}
-use lib.IntN.{ℤ, pos, _+ℤ_}
+use lib.IntN.{pos, _+ℤ_}
 use lib.ListN.{length}
-use Rattle.std.proofs.shelf.Signed.{ints}
 use Rattle.plant.specs.declared.records.Station.{Station}
 use Rattle.plant.specs.declared.records.Line.{Line}
 use Rattle.plant.specs.Records.{station, line}
-use Rattle.plant.specs.Selections.{Selection, upto, open-station, open-line, figure, gain as gainOf}
+use Rattle.plant.specs.Selections.{Selection, upto, open-station, open-line, figure}
 use Rattle.plant.proofs.Sums.{upto-more}
 use Rattle.yardsticks.specs.Laws.{Ops, limit, record-limit}
-use Rattle.yardsticks.specs.Models.{urgent-station, urgent-line, urgent-zero, urgent-plus, urgents, urgent-gain}
+use Rattle.yardsticks.specs.Models.{urgent-station, urgent-line, urgent-zero, urgent-plus, urgent-gain}
 use Rattle.yardsticks.specs.declared.figures.UrgentGain.{UrgentGain}
 use Rattle.yardsticks.proofs.Urgents.{pair}
 

@@ -1,5 +1,5 @@
 -- What the two yardsticks mean. Assumes nothing.
-use mathlib.Core.Bool.{Bool, true, false, cond}
+use mathlib.Core.Bool.{Bool, cond}
 use mathlib.Core.List.{List}
 use Prim.Native.Nat.{ℕ, _+_, max}
 use lib.IntN.{ℤ, pos, _+ℤ_, natAbs}

@@ -1,9 +1,9 @@
 // The figure of a selection, and what it is by each yardstick.
 ghost use mathlib.Core.Path.{_≡_};
 ghost use mathlib.Core.Bool.{cond};
-ghost use Prim.Native.Nat.{ℕ, _+_, _*_, _<_, _≤_};
+ghost use Prim.Native.Nat.{_*_, _<_, _≤_};
 ghost use lib.ListN.{length};
-ghost use Rattle.plant.specs.Records.{StationsInRange, LinesInRange, LineInRange};
+ghost use Rattle.plant.specs.Records.{StationsInRange, LinesInRange};
 ghost use Rattle.plant.specs.Selections.{Wide, among, upto, open-station, open-line, figure as figureBy, gain as gainBy};
 ghost use Rattle.yardsticks.specs.Laws.{record-limit};
 ghost use Rattle.yardsticks.specs.Models.{urgent-gain};

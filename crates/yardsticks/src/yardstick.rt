@@ -2,7 +2,6 @@
 ghost use mathlib.Core.Path.{_≡_};
 ghost use mathlib.Core.Bool.{Bool};
 ghost use Prim.Native.Nat.{ℕ, _+_, _≤_};
-ghost use lib.ListN.{length};
 ghost use Rattle.plant.specs.declared.records.Station.{Station};
 ghost use Rattle.plant.specs.declared.records.Line.{Line};
 ghost use Rattle.plant.specs.Records.{StationInRange, LineInRange};

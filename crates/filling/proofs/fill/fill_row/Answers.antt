@@ -1,13 +1,9 @@
-use mathlib.Core.Path.{_≡_, refl, sym, ap, _∙_, subst}
 use mathlib.Core.Logic.{_≢_}
-use Prim.Native.Nat.{ℕ, _+_, _<_, _≤_}
+use Prim.Native.Nat.{_+_, _<_}
 use native.Mathlib.Omega.{arith}
 use borrow.Author.Count.{below-more}
-use lib.ListN.{length, length-set}
+use lib.ListN.{length}
 use lib.Seq.{getD-set-same, getD-set-other}
-use Rattle.std.specs.declared.option.Option.the-variants.{None}
-use Rattle.cells.specs.Tables.{row-start}
-use Rattle.cells.specs.Tops.{Tops, cell-of}
 use Rattle.filling.proofs.Standing.{few-nodes, row-room, row-small, filled-kept}
 use Rattle.filling.proofs.fill.fill_row.Needs as need
 

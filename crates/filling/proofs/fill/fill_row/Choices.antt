@@ -2,7 +2,6 @@ use mathlib.Core.Path.{_≡_}
 use Prim.Native.Nat.{ℕ, _+_, _<_, _≤_}
 use Rattle.cells.specs.Inside.{Choice}
 use Rattle.cells.specs.Subtrees.{sub}
-use Rattle.cells.specs.Tables.{row-start, memory}
 use Rattle.cells.specs.Tops.{Tops, cell-of}
 use Rattle.filling.specs.Sites.{site, scores, tree}
 use Rattle.filling.proofs.fill.fill_row.Given as given

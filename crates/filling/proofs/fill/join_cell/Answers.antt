@@ -1,4 +1,3 @@
-use mathlib.Core.Path.{_≡_}
 use Rattle.filling.proofs.Passes.{both-tops}
 use Rattle.filling.proofs.fill.join_cell.Needs as need
 

@@ -1,11 +1,6 @@
-use mathlib.Core.Path.{_≡_, refl, sym, subst}
-use mathlib.Core.Bool.{Bool}
 use native.Mathlib.Omega.{arith}
-use Prim.Native.Nat.{ℕ, _+_, _<_}
-use lib.ListN.{getD, length}
+use lib.ListN.{length}
 use Rattle.cells.specs.Joins.{first-right, second-left}
-use Rattle.cells.specs.Tables.{row-start}
-use Rattle.cells.specs.Tops.{cell-of}
 use Rattle.filling.proofs.Passes.{through-fair, through-tops}
 use Rattle.filling.proofs.Standing.{row-room}
 use Rattle.filling.proofs.fill.through.Needs as need

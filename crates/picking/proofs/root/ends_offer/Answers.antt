@@ -1,12 +1,11 @@
 use mathlib.Core.Path.{_≡_, sym, ap, _∙_, subst}
-use Prim.Native.Nat.{ℕ, _+_, _-_, _<_, _≤_}
+use Prim.Native.Nat.{ℕ, _+_, _-_}
 use native.Mathlib.Omega.{arith}
 use lib.ListN.{length}
 use Rattle.cells.specs.Tables.{memory}
 use Rattle.cells.specs.Tops.{cell-of}
 use Rattle.cells.proofs.Topping.{order, held-within}
 use Rattle.plant.specs.Trees.{left, right}
-use Rattle.joins.specs.declared.share.Share.{Share}
 use Rattle.picking.specs.Offers.{Leading, RowOffers, share-at}
 use Rattle.filling.specs.Sites.{site, tree}
 use Rattle.picking.proofs.Offers.{row-agrees}

@@ -1,12 +1,10 @@
-use mathlib.Core.Path.{_≡_, refl, sym, ap, _∙_}
-use Prim.Native.Nat.{_+_, _<_}
+use mathlib.Core.Path.{refl, sym, _∙_}
 use native.Mathlib.Omega.{arith}
-use lib.ListN.{length, getD}
 use Rattle.std.proofs.shelf.Lists.{getD-read}
-use Rattle.std.specs.declared.option.Option.the-variants.{Some, None}
-use Rattle.cells.specs.Tops.{cell-of, better-of}
+use Rattle.std.specs.declared.option.Option.the-variants.{None}
+use Rattle.cells.specs.Tops.{cell-of}
 use Rattle.cells.proofs.Topping.{order}
-use Rattle.picking.specs.Offers.{outranks, offer-of}
+use Rattle.picking.specs.Offers.{offer-of}
 use Rattle.picking.proofs.Offers.{one-offer, offers-step, offers-end}
 use Rattle.picking.proofs.root.row_offer.Needs as need
 

@@ -1,11 +1,8 @@
-use mathlib.Core.Path.{_≡_, refl, sym, subst}
-use mathlib.Core.Logic.{_⊎_, inl, inr}
-use Prim.Native.Nat.{_≤_}
+use mathlib.Core.Path.{refl}
+use mathlib.Core.Logic.{inr}
 use native.Mathlib.Omega.{arith}
-use lib.ListN.{length}
 use Rattle.plant.specs.Selections.{among}
 use Rattle.filling.specs.Sites.{Ready}
-use Rattle.solver.specs.Solutions.{needs}
 use Rattle.solver.proofs.Answering.{tables, hopeless, best}
 use Rattle.solver.proofs.solve.solve.Needs as need
 

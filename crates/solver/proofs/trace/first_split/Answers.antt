@@ -1,16 +1,13 @@
-use mathlib.Core.Path.{_≡_, refl, sym, ap, _∙_, subst}
+use mathlib.Core.Path.{refl, sym, _∙_}
 use mathlib.Core.Bool.{Bool, true, false}
-use mathlib.Core.Logic.{_⊎_, inl, inr, ⊎-elim}
-use Prim.Native.Nat.{ℕ, _+_, _-_, _<_, _≤_}
+use Prim.Native.Nat.{ℕ, _-_, _<_, _≤_}
 use native.Mathlib.Omega.{arith}
 use borrow.Author.Count.{below-more}
 use lib.Dec.{eqb}
-use lib.ListN.{length, getD}
+use lib.ListN.{length}
 use Rattle.std.proofs.shelf.Lists.{getD-read}
 use Rattle.std.proofs.shelf.Tests.{eqb-true, both-ways}
-use Rattle.std.specs.declared.option.Option.the-variants.{Some, None}
-use Rattle.cells.specs.Joins.{first-right, second-left}
-use Rattle.cells.specs.Tops.{cell-of, joined-of}
+use Rattle.std.specs.declared.option.Option.the-variants.{None}
 use Rattle.solver.specs.Splits.{PassAttains}
 use Rattle.solver.proofs.Splitting.{count-small, split-fair, state-none, found-first}
 use Rattle.filling.proofs.Standing.{row-room}

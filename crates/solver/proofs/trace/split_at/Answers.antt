@@ -1,12 +1,11 @@
-use mathlib.Core.Path.{_≡_, sym, _∙_}
-use Prim.Native.Nat.{ℕ, _+_, _<_}
+use mathlib.Core.Path.{sym, _∙_}
 use native.Mathlib.Omega.{arith}
 use lib.ListN.{length}
 use Rattle.std.proofs.shelf.Lists.{getD-read}
-use Rattle.std.specs.declared.option.Option.the-variants.{Some, None}
+use Rattle.std.specs.declared.option.Option.the-variants.{None}
 use Rattle.cells.proofs.Topping.{none-some}
 use Rattle.solver.proofs.Solving.{split-some}
-use Rattle.filling.proofs.Standing.{row-room, few-nodes}
+use Rattle.filling.proofs.Standing.{row-room}
 use Rattle.solver.proofs.trace.split_at.Needs as need
 
 pub row-of-row-requires : need.row-of-row-requires

@@ -1,5 +1,4 @@
-use mathlib.Core.Path.{_≡_, sym, _∙_, subst}
-use native.Mathlib.Omega.{arith}
+use mathlib.Core.Path.{sym, subst}
 use mathlib.Core.List.{[], _∷_}
 use Rattle.solver.specs.Pending.{Pending}
 use Rattle.solver.proofs.Pendings.{pending-start}

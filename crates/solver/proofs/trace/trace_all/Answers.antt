@@ -1,13 +1,12 @@
-use mathlib.Core.Path.{_≡_, refl, sym, ap, _∙_, subst}
+use mathlib.Core.Path.{_≡_, sym, ap, _∙_, subst}
 use mathlib.Core.List.{List, [], _∷_, _++_}
-use Prim.Native.Nat.{ℕ, _+_, _<_, _≤_}
+use Prim.Native.Nat.{_+_, _<_, _≤_}
 use native.Mathlib.Omega.{arith}
 use lib.ListN.{length, length-append}
 use Rattle.plant.specs.Held.{held, room}
-use Rattle.plant.specs.Nodes.{joined}
 use Rattle.cells.specs.Subtrees.{sub, leaves}
 use Rattle.joins.specs.declared.cell.Spot.{Spot}
-use Rattle.solver.specs.Pending.{first-spot, second-spot, Pending, load, size-at, leaves-at, tree-at}
+use Rattle.solver.specs.Pending.{first-spot, second-spot, Pending, load, size-at, leaves-at}
 use Rattle.filling.specs.Sites.{tree}
 use Rattle.solver.proofs.Pendings.{in-new, load-more, stack-short, leaves-pos}
 use Rattle.filling.proofs.Standing.{join-at, leaf-at}

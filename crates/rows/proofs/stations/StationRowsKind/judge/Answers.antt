@@ -6,10 +6,10 @@ use Rattle.rows.proofs.StationRow.{wrong-count, right-count}
 use Rattle.rows.proofs.stations.StationRowsKind.judge.Needs as need
 
 pub returns-then-fields-ne-COLUMNS : need.returns-then-fields-ne-COLUMNS
-returns-then-fields-ne-COLUMNS c = sym (wrong-count (c .args .k) (c .args .fields .now) (c .pre) (c .if-k-gt-MAX-STATIONS .left) (c .if-fields-ne-COLUMNS .taken))
+returns-then-fields-ne-COLUMNS c = sym (wrong-count (c .args .k) (c .args .fields .now) (c .pre) (c .if-k-gt-MOST .left) (c .if-fields-ne-COLUMNS .taken))
 
 pub returns : need.returns
 returns c =
     c .station-of .ensures
     ∙ (λ i. stationBy cap (c .args .k) (meaning (c .get .ensures i)) (meaning (c .get-2 .ensures i)) (meaning (c .get-3 .ensures i)) (meaning (c .get-4 .ensures i)) (meaning (c .get-5 .ensures i)))
-    ∙ right-count (c .args .k) (c .args .fields .now) (c .pre) (c .if-k-gt-MAX-STATIONS .left) (c .if-fields-ne-COLUMNS .left)
+    ∙ right-count (c .args .k) (c .args .fields .now) (c .pre) (c .if-k-gt-MOST .left) (c .if-fields-ne-COLUMNS .left)
