@@ -17,25 +17,25 @@ use Rattle.plant.specs.declared.refusal.Reason.the-variants as R
 use Rattle.tables.specs.Laws.{meaning}
 use Rattle.tables.specs.Numerals.{spelled, numeral}
 use Rattle.tables.proofs.Spelling.{spelled-law}
-use Rattle.rows.specs.Faults.{Counted, Formed, Numbered, Joins, Breaks}
+use Rattle.rows.specs.Faults.{Counted, Formed, Numbered, Ended, Breaks}
 use Rattle.rows.specs.Verdict.{Rules}
 use Rattle.rows.specs.Written.{Form, Fair}
 
 -- what becomes of a row whose fields are right
 abbrev pub settled : {A : Type 0} → Bool → Bool → A → Result A Reason
-settled numbered joined a = cond numbered (cond joined (Ok a) (Err R.LineEnds)) (Err R.RowNumber)
+settled numbered between a = cond numbered (cond between (Ok a) (Err R.LineEnds)) (Err R.RowNumber)
 
 -- the rules judge what the form writes: one row is read from its fields and written to them
 pub record Judges {A : Type 0} (U : Rules A) (F : Form A) : Type 0 where
   pub body : ℕ → List (List ℕ) → Result A Reason
   pub judge-is : (k : ℕ) (ps : List (List ℕ)) → U .judge k ps ≡ cond (ltb (F .most) k) (Err R.RowCount) (cond (eqb (length ps) (length (F .head))) (body k ps) (Err R.FieldCount))
   pub least-is : U .least ≡ F .least
-  pub joined : A → Bool
-  pub joined-true : (a : A) → joined a ≡ true → F .Joined a
-  pub true-joined : (a : A) → F .Joined a → joined a ≡ true
+  pub between : A → Bool
+  pub between-true : (a : A) → between a ≡ true → F .Between a
+  pub true-between : (a : A) → F .Between a → between a ≡ true
   pub first-cell : (i : ℕ) (a : A) → getD (F .cells i a) 0 [] ≡ spelled i
   pub columns : (i : ℕ) (a : A) → length (F .cells i a) ≡ length (F .head)
-  pub written : (k i : ℕ) (a : A) (ps : List (List ℕ)) → map meaning ps ≡ F .cells i a → F .InRange a → body k ps ≡ settled (eqb (i + 1) k) (joined a) a
+  pub written : (k i : ℕ) (a : A) (ps : List (List ℕ)) → map meaning ps ≡ F .cells i a → F .InRange a → body k ps ≡ settled (eqb (i + 1) k) (between a) a
   pub formed : (k : ℕ) (ps : List (List ℕ)) → length ps ≡ length (F .head) → (body k ps ≡ Err R.FieldForm) ⊎ Formed F (map meaning ps)
   pub heads-true : (ps : List (List ℕ)) → U .heads ps ≡ true → map meaning ps ≡ F .head
   pub true-heads : (ps : List (List ℕ)) → map meaning ps ≡ F .head → U .heads ps ≡ true
@@ -70,7 +70,7 @@ same-number i k e =
 
 module _ {A : Type 0} (U : Rules A) (F : Form A) (J : Judges U F) where
   -- fields that are right
-  settled-says : (k : ℕ) (ps : List (List ℕ)) (i : ℕ) (a : A) → k < F .most → F .InRange a → map meaning ps ≡ F .cells i a → Judged F k (map meaning ps) (settled (eqb (i + 1) (k + 1)) (J .joined a) a)
+  settled-says : (k : ℕ) (ps : List (List ℕ)) (i : ℕ) (a : A) → k < F .most → F .InRange a → map meaning ps ≡ F .cells i a → Judged F k (map meaning ps) (settled (eqb (i + 1) (k + 1)) (J .between a) a)
   settled-says k ps i a few range e =
       let counted : Counted F (map meaning ps) = ap length e ∙ J .columns i a in
       let formed : Formed F (map meaning ps) = (i, a, range, e) in
@@ -79,8 +79,8 @@ module _ {A : Type 0} (U : Rules A) (F : Form A) (J : Judges U F) where
       (λ p.
       let same : i + 1 ≡ k + 1 = eqb-true (i + 1) (k + 1) p in
       let at : i ≡ k = omega arith in
-      cond-both (J .joined a) _ _ (Judged F k (map meaning ps))
-      (λ q. record { is = e ∙ ap (λ x. F .cells x a) at; fair = (range, J .joined-true a q); few = few })
+      cond-both (J .between a) _ _ (Judged F k (map meaning ps))
+      (λ q. record { is = e ∙ ap (λ x. F .cells x a) at; fair = (range, J .between-true a q); few = few })
       (λ q. (
         few,
         counted,
@@ -88,7 +88,7 @@ module _ {A : Type 0} (U : Rules A) (F : Form A) (J : Judges U F) where
         first ∙ ap spelled at,
         λ o.
             let here : J .body (k + 1) ps ≡ Err R.LineEnds = J .written (k + 1) i a ps e range ∙ (λ x. settled (p x) (q x) a) in
-            let there : J .body (k + 1) ps ≡ settled (eqb (o .0 + 1) (k + 1)) true (o .1) = J .written (k + 1) (o .0) (o .1) ps (o .4) (o .2) ∙ ap (λ x. settled (eqb (o .0 + 1) (k + 1)) x (o .1)) (J .true-joined (o .1) (o .3)) in
+            let there : J .body (k + 1) ps ≡ settled (eqb (o .0 + 1) (k + 1)) true (o .1) = J .written (k + 1) (o .0) (o .1) ps (o .4) (o .2) ∙ ap (λ x. settled (eqb (o .0 + 1) (k + 1)) x (o .1)) (J .true-between (o .1) (o .3)) in
             not-ends (eqb (o .0 + 1) (k + 1)) (o .1) (sym there ∙ here),
       )))
       (λ p. (few, counted, formed, λ numbered. eqb-false (i + 1) (k + 1) p (ap (λ x. x + 1) (same-number i k (sym first ∙ numbered)))))
@@ -96,7 +96,7 @@ module _ {A : Type 0} (U : Rules A) (F : Form A) (J : Judges U F) where
   body-says : (k : ℕ) (ps : List (List ℕ)) → k < F .most → length ps ≡ length (F .head) → Judged F k (map meaning ps) (J .body (k + 1) ps)
   body-says k ps few n =
       ⊎-elim
-      (λ e. subst (Judged F k (map meaning ps)) (sym e) (few, length-map ps meaning ∙ n, λ o. not-form (eqb (o .0 + 1) (k + 1)) (J .joined (o .1)) (o .1) (sym (J .written (k + 1) (o .0) (o .1) ps (o .3) (o .2)) ∙ e)))
+      (λ e. subst (Judged F k (map meaning ps)) (sym e) (few, length-map ps meaning ∙ n, λ o. not-form (eqb (o .0 + 1) (k + 1)) (J .between (o .1)) (o .1) (sym (J .written (k + 1) (o .0) (o .1) ps (o .3) (o .2)) ∙ e)))
       (λ o. subst (Judged F k (map meaning ps)) (sym (J .written (k + 1) (o .0) (o .1) ps (o .3) (o .2))) (settled-says k ps (o .0) (o .1) few (o .2) (o .3)))
       (J .formed (k + 1) ps n)
 
@@ -119,7 +119,7 @@ module _ {A : Type 0} (U : Rules A) (F : Form A) (J : Judges U F) where
       J .judge-is (k + 1) ps
       ∙ (λ x. cond (le-ltb (F .most) (k + 1) few x) (Err R.RowCount) (cond (eq-eqb (length ps) (length (F .head)) n x) (J .body (k + 1) ps) (Err R.FieldCount)))
       ∙ J .written (k + 1) k a ps (t .is) (t .fair .0)
-      ∙ (λ x. settled (eq-eqb (k + 1) (k + 1) refl x) (J .true-joined a (t .fair .1) x) a)
+      ∙ (λ x. settled (eq-eqb (k + 1) (k + 1) refl x) (J .true-between a (t .fair .1) x) a)
 
   -- ---- a row that breaks a rule, and none before it, is refused for it
 
@@ -149,12 +149,12 @@ module _ {A : Type 0} (U : Rules A) (F : Form A) (J : Judges U F) where
   wrong-number : (k : ℕ) (ps : List (List ℕ)) → Formed F (map meaning ps) → (Numbered k (map meaning ps) → ⊥) → J .body (k + 1) ps ≡ Err R.RowNumber
   wrong-number k ps f never =
       let differ : f .0 + 1 ≡ k + 1 → ⊥ = λ e. let at : f .0 ≡ k = omega arith in never (first-is ps (f .0) (f .1) (f .3) ∙ ap spelled at) in
-      J .written (k + 1) (f .0) (f .1) ps (f .3) (f .2) ∙ ap (λ t. settled t (J .joined (f .1)) (f .1)) (ne-eqb (f .0 + 1) (k + 1) differ)
+      J .written (k + 1) (f .0) (f .1) ps (f .3) (f .2) ∙ ap (λ t. settled t (J .between (f .1)) (f .1)) (ne-eqb (f .0 + 1) (k + 1) differ)
 
-  wrong-ends : (k : ℕ) (ps : List (List ℕ)) → Formed F (map meaning ps) → Numbered k (map meaning ps) → (Joins F (map meaning ps) → ⊥) → J .body (k + 1) ps ≡ Err R.LineEnds
+  wrong-ends : (k : ℕ) (ps : List (List ℕ)) → Formed F (map meaning ps) → Numbered k (map meaning ps) → (Ended F (map meaning ps) → ⊥) → J .body (k + 1) ps ≡ Err R.LineEnds
   wrong-ends k ps f numbered never =
       let same : f .0 + 1 ≡ k + 1 = ap (λ x. x + 1) (same-number (f .0) k (sym (first-is ps (f .0) (f .1) (f .3)) ∙ numbered)) in
-      let apart : J .joined (f .1) ≡ false = ⊎-elim (λ t. absurd (never (f .0, f .1, f .2, J .joined-true (f .1) t, f .3))) (λ e. e) (cases-bool (J .joined (f .1))) in
+      let apart : J .between (f .1) ≡ false = ⊎-elim (λ t. absurd (never (f .0, f .1, f .2, J .between-true (f .1) t, f .3))) (λ e. e) (cases-bool (J .between (f .1))) in
       J .written (k + 1) (f .0) (f .1) ps (f .3) (f .2) ∙ (λ x. settled (eq-eqb (f .0 + 1) (k + 1) same x) (apart x) (f .1))
 
   pub breaks-judged : (k : ℕ) (ps : List (List ℕ)) (r : Reason) → Breaks F k (map meaning ps) r → U .judge (k + 1) ps ≡ Err r

@@ -26,9 +26,9 @@ Formed {A} F cs = (i : ℕ) × (a : A) × F .InRange a × (cs ≡ F .cells i a)
 abbrev pub Numbered : ℕ → List (List ℕ) → Type 0
 Numbered k cs = getD cs 0 [] ≡ spelled k
 
--- it joins what it may
-abbrev pub Joins : {A : Type 0} → Form A → List (List ℕ) → Type 0
-Joins {A} F cs = (i : ℕ) × (a : A) × F .InRange a × F .Joined a × (cs ≡ F .cells i a)
+-- its ends, if it is a line, are two different stations
+abbrev pub Ended : {A : Type 0} → Form A → List (List ℕ) → Type 0
+Ended {A} F cs = (i : ℕ) × (a : A) × F .InRange a × F .Between a × (cs ≡ F .cells i a)
 
 -- The k-th row, counted from 0, breaks the rule of this reason and none of those before it: one too many, the count of fields, their form,
 -- the row's number, a line's ends. There is no other rule.
@@ -37,7 +37,7 @@ Breaks F k cs RowCount = F .most ≤ k
 Breaks F k cs FieldCount = (k < F .most) × (Counted F cs → ⊥)
 Breaks F k cs FieldForm = (k < F .most) × Counted F cs × (Formed F cs → ⊥)
 Breaks F k cs RowNumber = (k < F .most) × Counted F cs × Formed F cs × (Numbered k cs → ⊥)
-Breaks F k cs LineEnds = (k < F .most) × Counted F cs × Formed F cs × Numbered k cs × (Joins F cs → ⊥)
+Breaks F k cs LineEnds = (k < F .most) × Counted F cs × Formed F cs × Numbered k cs × (Ended F cs → ⊥)
 Breaks F k cs TextTooLong = ⊥
 Breaks F k cs MemoryTooShort = ⊥
 Breaks F k cs TableGrammar = ⊥
@@ -103,7 +103,8 @@ pub record TooFew {A : Type 0} (F : Form A) (s : List ℕ) (place : ℕ) : Type 
   pub number : place ≡ length rows
   pub fault : length rows < F .least
 
--- what each reason says of a text and a place; no other reason is given
+-- what each reason says of a text and a place, which is a byte's for the grammar, the count of rows for too few, and else the record's; no
+-- other reason is given
 abbrev pub FirstFault : {A : Type 0} → Form A → List ℕ → ℕ → Reason → Type 0
 FirstFault F s place TableGrammar = GrammarAtFault F s place
 FirstFault F s place FieldCount = HeaderAtFault F s place ⊎ RowAtFault F s place FieldCount

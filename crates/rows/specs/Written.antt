@@ -14,19 +14,19 @@ use Rattle.plant.specs.Records.{StationInRange, LineInRange, LineBetween}
 use Rattle.tables.specs.Numerals.{spelled, spelledℤ}
 use Rattle.tables.specs.Written as W
 
--- How a kind of rows is written: the header's words, what the fields of the k-th row mean, which values are in range, which rows join what
--- they may, and how few and how many rows there may be.
+-- How a kind of rows is written: the header's words, what the fields of the k-th row mean, counted from 0, which rows have their values in
+-- range, which run between the stations they may, and how few and how many rows there may be.
 pub record Form (A : Type 0) : Type 1 where
   pub head : List (List ℕ)
   pub cells : ℕ → A → List (List ℕ)
   pub InRange : A → Type 0
-  pub Joined : A → Type 0
+  pub Between : A → Type 0
   pub least : ℕ
   pub most : ℕ
 
 -- a row that may stand in a table
 abbrev pub Fair : {A : Type 0} → Form A → A → Type 0
-Fair F a = F .InRange a × F .Joined a
+Fair F a = F .InRange a × F .Between a
 
 -- what the fields of these rows mean, the first of which is the k-th
 abbrev pub cells-from : {A : Type 0} → Form A → ℕ → List A → List (List (List ℕ))
@@ -53,6 +53,7 @@ pub record Writes {A : Type 0} (F : Form A) (s : List ℕ) (rows : List A) : Typ
 
 -- ---- stations
 
+-- a hold is one of three words
 abbrev pub word : Hold → List ℕ
 word H.Free = codes "free"
 word H.Open = codes "open"
@@ -66,13 +67,14 @@ mark false = 0
 abbrev pub station-cells : ℕ → Station → List (List ℕ)
 station-cells k s = spelled k ∷ spelled (s .hours) ∷ spelledℤ (s .gain) ∷ spelled (mark (s .urgent)) ∷ word (s .hold) ∷ []
 
+-- a station runs between nothing
 abbrev pub station-form : Form Station
 station-form =
     record {
       head = codes "station" ∷ codes "hours" ∷ codes "gain" ∷ codes "urgent" ∷ codes "hold" ∷ [];
       cells = station-cells;
       InRange = StationInRange;
-      Joined = λ s. Unit {0};
+      Between = λ s. Unit {0};
       least = 2;
       most = 64;
     }
@@ -82,14 +84,14 @@ station-form =
 abbrev pub line-cells : ℕ → Line → List (List ℕ)
 line-cells k l = spelled k ∷ spelled (l .from) ∷ spelled (l .to) ∷ spelledℤ (l .gain) ∷ []
 
--- the lines between n stations
+-- a line runs between two different stations of n
 abbrev pub line-form : ℕ → Form Line
 line-form n =
     record {
       head = codes "line" ∷ codes "from" ∷ codes "to" ∷ codes "gain" ∷ [];
       cells = line-cells;
       InRange = LineInRange;
-      Joined = LineBetween n;
+      Between = LineBetween n;
       least = 1;
       most = 128;
     }

@@ -17,6 +17,7 @@ use Rattle.drawing.specs.Faults as Drawing
 use Rattle.drawing.specs.Verdict as Drawn
 use Rattle.texts.specs.Verdict.{accepted, refused, verdict}
 
+-- a text has at most 65,535 bytes, or it is too long
 abbrev pub Short : List ℕ → Type 0
 Short text = length text ≤ 65535
 
