@@ -112,11 +112,12 @@ last-run : (r : Row) → Proper r → whole (line r) ≡ row (parts r) done
 last-run r h = ap whole (sym (append-nil (line r))) ∙ row-run r h [] ∙ end-run (r .last) (bytes (r .last)) (map bytes (r .front)) ∙ ap (λ x. row x done) (parts-are r)
 
 -- a record begins where the text is not over
-again-is : (s : List ℕ) → 0 < length s → again s ≡ whole s
+pub again-is : (s : List ℕ) → 0 < length s → again s ≡ whole s
 again-is [] h = absurd (omega arith)
 again-is (b ∷ s) h = refl
 
-abbrev onto : List (List (List ℕ)) → Told → Told
+-- these records, and then what is told
+abbrev pub onto : List (List (List ℕ)) → Told → Told
 onto [] t = t
 onto (ps ∷ pss) t = row ps (onto pss t)
 
@@ -129,7 +130,7 @@ lines-run (r ∷ rs) h s =
     ap again (append-assoc (line r) (13 ∷ 10 ∷ lines rs) s) ∙ again-is (line r ++ 13 ∷ 10 ∷ (lines rs ++ s)) (long r (lines rs ++ s)) ∙ line-run r (h .0) (lines rs ++ s) ∙ ap (λ t. row (parts r) t) (lines-run rs (h .1) s)
 
 -- and a whole text
-lines-whole : (r : Row) (rs : List Row) → All Proper (r ∷ rs) → (s : List ℕ) → whole (lines (r ∷ rs) ++ s) ≡ onto (map parts (r ∷ rs)) (again s)
+pub lines-whole : (r : Row) (rs : List Row) → All Proper (r ∷ rs) → (s : List ℕ) → whole (lines (r ∷ rs) ++ s) ≡ onto (map parts (r ∷ rs)) (again s)
 lines-whole r rs h s =
     ap whole (append-assoc (line r) (13 ∷ 10 ∷ lines rs) s) ∙ line-run r (h .0) (lines rs ++ s) ∙ ap (λ t. row (parts r) t) (lines-run rs (h .1) s)
 
