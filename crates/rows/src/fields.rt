@@ -13,14 +13,14 @@ use tables::numbers::integer;
 use tables::numbers::natural;
 
 // Whether a field's contents are this word, which has no quote.
-pub fn is(part: &[u8], word: &str) -> bool
+pub(crate) fn is(part: &[u8], word: &str) -> bool
     requires { ⌜ clean (now word) ≡ true ⌝ }
     ensures { λ r. ⌜ r ≡ sameBytes (meaning (now (part .entry))) (now (word .entry)) ⌝ }
 {
     inner(part) == word.as_bytes()
 }
 
-pub fn number(part: &[u8]) -> Option<u32>
+pub(crate) fn number(part: &[u8]) -> Option<u32>
     ensures { λ r. ⌜ r ≡ cap (meaning (now (part .entry))) ⌝ }
 {
     natural(inner(part))
@@ -32,7 +32,7 @@ fn signed_number(part: &[u8]) -> Option<i64>
     integer(inner(part))
 }
 
-pub fn hours_of(part: &[u8]) -> Option<u32>
+pub(crate) fn hours_of(part: &[u8]) -> Option<u32>
     ensures { λ r. ⌜ r ≡ limited 1000 (cap (meaning (now (part .entry)))) ⌝ }
 {
     match number(part) {
@@ -41,7 +41,7 @@ pub fn hours_of(part: &[u8]) -> Option<u32>
     }
 }
 
-pub fn gain_of(part: &[u8]) -> Option<i64>
+pub(crate) fn gain_of(part: &[u8]) -> Option<i64>
     ensures { λ r. ⌜ r ≡ limitedℤ (signedBy cap (meaning (now (part .entry)))) ⌝ }
 {
     match signed_number(part) {
@@ -50,7 +50,7 @@ pub fn gain_of(part: &[u8]) -> Option<i64>
     }
 }
 
-pub fn mark_of(part: &[u8]) -> Option<bool>
+pub(crate) fn mark_of(part: &[u8]) -> Option<bool>
     ensures { λ r. ⌜ r ≡ marked (cap (meaning (now (part .entry)))) ⌝ }
 {
     match number(part) {
@@ -60,7 +60,7 @@ pub fn mark_of(part: &[u8]) -> Option<bool>
     }
 }
 
-pub fn hold_of(part: &[u8]) -> Option<Hold>
+pub(crate) fn hold_of(part: &[u8]) -> Option<Hold>
     ensures { λ r. ⌜ r ≡ holdOf (meaning (now (part .entry))) ⌝ }
 {
     if is(part, "free") {
