@@ -1,6 +1,6 @@
 // Solving a plan, and ticking off what was picked.
 ghost use mathlib.Core.Path.{_≡_};
-ghost use mathlib.Core.Bool.{true, false, cond};
+ghost use mathlib.Core.Bool.{true, false, cond, not};
 ghost use Prim.Native.Nat.{ℕ, _+_, _<_, _≤_};
 ghost use lib.ListN.{length};
 ghost use Rattle.std.specs.Results.{Cases};
@@ -25,7 +25,9 @@ use plant::tree::Node;
 use yardsticks::yardstick::Yardstick;
 
 impl Plan {
-    pub fn is_blank(&self) -> bool {
+    pub fn is_blank(&self) -> bool
+        ensures { λ r. ⌜ r ≡ not (now (self .entry) .filled) ⌝ }
+    {
         !self.filled
     }
 
