@@ -1,4 +1,6 @@
 // Reads the text of a plant's tree, checks every join, and hands out the nodes in the order in which their text is completed.
+#![tactic(auto)]
+
 ghost use Rattle.std.specs.Prelude.{◌≡◌, ℕ, ◌<◌, ◌≤◌, length};
 ghost use Rattle.drawing.specs.Verdict.{Joins, Answers, AcceptedWhenWritten, RefusedAtFirstFault};
 

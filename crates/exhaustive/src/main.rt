@@ -1,4 +1,6 @@
 // Many small plants, every selection of each tried, compared with what the planner picks.
+#![tactic(auto)]
+
 use links::Links;
 use plan::Plan;
 use plant::records::Hold;

@@ -1,2 +1,4 @@
 // The tables of a plant, filled node by node.
+#![tactic(auto)]
+
 pub mod fill;

@@ -1,3 +1,5 @@
 // The pick at the root.
+#![tactic(auto)]
+
 pub mod offer;
 pub mod root;

@@ -1,4 +1,6 @@
 // The plan of a stop: what is to be solved, the list that comes of it, and the ticks on that list.
+#![tactic(auto)]
+
 ghost use Rattle.std.specs.Prelude.{◌≡◌, ◌≤◌, true, length};
 ghost use Rattle.plant.specs.Nodes.{IsPlant};
 ghost use Rattle.plant.specs.Tables.{listed};

@@ -1,4 +1,6 @@
 // The subject: stations, lines, the tree that draws the plant, selections of stations, and refusals.
+#![tactic(auto)]
+
 pub mod limits;
 pub mod records;
 pub mod refusal;

@@ -1,4 +1,6 @@
 // A script of calls on standard input, their answers on standard output.
+#![tactic(auto)]
+
 use order::{MOST_CELLS, Order, ScriptLine, read_script};
 use plan::Plan;
 use plan::script::perform::perform;

@@ -1,4 +1,6 @@
 // The rows of the stations' and of the lines' table.
+#![tactic(auto)]
+
 pub mod fields;
 pub mod kind;
 pub mod laws;

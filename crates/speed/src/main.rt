@@ -1,4 +1,6 @@
 // The largest plants, solved: their lists, and with the word `time` how long each took.
+#![tactic(auto)]
+
 use anyhow::anyhow;
 use plan::Plan;
 use std::alloc::Global;

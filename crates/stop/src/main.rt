@@ -1,4 +1,6 @@
 // Three files and a budget of hours: the best list, printed.
+#![tactic(auto)]
+
 use anyhow::anyhow;
 use plan::Plan;
 use plan::sheet::refusal_line;

@@ -1,4 +1,6 @@
 // Examples: the small plant, and each refusal at an edge.
+#![tactic(auto)]
+
 #[cfg(test)]
 mod calls;
 #[cfg(test)]
