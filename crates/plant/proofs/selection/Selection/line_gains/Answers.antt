@@ -10,9 +10,9 @@ loop-k-preserved c =
     let ls = c.args.lines.now in
     let k = c.loop-k.k in
     let S = among c.args.self.now in
-    let is : c.line-gain-total.result ≡ open_line (pos 0) (λ l. l.gain) ls S k = c.line-gain-total.ensures.value in
+    let is : c.line_gain-total.result ≡ open_line (pos 0) (λ l. l.gain) ls S k = c.line_gain-total.ensures.value in
     let z = cond (S (line ls k).to) (line ls k).gain (pos 0) in
     let inside = cond-smallℤ (S (line ls k).to) (line ls k).gain 1000000000 (c.requires.range k c.loop-k-test.true) in
-    let small : nat_abs c.line-gain-total.result ≤ 1000000000 =
+    let small : nat_abs c.line_gain-total.result ≤ 1000000000 =
     subst (λ (x : ℤ). nat_abs x ≤ 1000000000) (sym is) (cond-smallℤ (S (line ls k).from) z 1000000000 inside) in
-    (sum_step (open_line (pos 0) (λ l. l.gain) ls S) k _ c.loop-k.total c.line-gain-total.result (omega (arith, ints)) (sym c.loop-k.total-is ∙ c.loop-k.invariant.0) is, omega (arith, ints))
+    (sum_step (open_line (pos 0) (λ l. l.gain) ls S) k _ c.loop-k.total c.line_gain-total.result (omega (arith, ints)) (sym c.loop-k.total-is ∙ c.loop-k.invariant.0) is, omega (arith, ints))
