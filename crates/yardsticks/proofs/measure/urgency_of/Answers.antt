@@ -4,4 +4,4 @@ use Rattle.yardsticks.proofs.Sums.{urgent_figure}
 use Rattle.yardsticks.proofs.measure.urgency_of.Goals as goal
 
 pub returns : goal.returns
-returns c = c.figure-of.ensures ∙ urgent_figure c.args.stations.now c.args.lines.now (among c.args.s.now)
+returns c = c.figure_of.ensures ∙ urgent_figure c.args.stations.now c.args.lines.now (among c.args.s.now)

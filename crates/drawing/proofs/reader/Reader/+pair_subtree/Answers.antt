@@ -8,25 +8,25 @@ use Rattle.drawing.proofs.reader.Reader.+pair_subtree.Goals as goal
 
 pub pair-subtree-requires-2 : goal.pair-subtree-requires-2
 pair-subtree-requires-2 t c =
-    let a = c.in-ok-subtree.ensures in
+    let a = c.in_ok-subtree.ensures in
     let one = longer (subtree c.args.deep) a in
-    (omega arith, (c.in-ok-expect.ensures.sound, (a.reads.2.ready, omega (arith, one, a.reads.2.room))))
+    (omega arith, (c.in_ok-expect.ensures.sound, (a.reads.2.ready, omega (arith, one, a.reads.2.room))))
 
 pub pair-join-requires : goal.pair-join-requires
 pair-join-requires t c =
-    let a = c.in-ok-subtree.ensures in
-    let b = c.in-ok-subtree-2.ensures in
+    let a = c.in_ok-subtree.ensures in
+    let b = c.in_ok-subtree-2.ensures in
     record { ready = b.reads.2.ready; two = omega (arith, longer (subtree c.args.deep) a, longer (subtree c.args.deep) b) }
 
 pub pair-returns-then-not-join : goal.pair-returns-then-not-join
 pair-returns-then-not-join t c =
-    let h = halves c.args.deep c.in-ok-subtree.ensures c.in-ok-expect.ensures c.in-ok-subtree-2.ensures c.in-ok-expect-2.ensures in
-    pair_apart c.args.deep _ _ h c.in-ok-join.ensures c.if-not-join.ensures c.refusal.ensures
+    let h = halves c.args.deep c.in_ok-subtree.ensures c.in_ok-expect.ensures c.in_ok-subtree-2.ensures c.in_ok-expect-2.ensures in
+    pair_apart c.args.deep _ _ h c.in_ok-join.ensures c.if-not-join.ensures c.refusal.ensures
 
 pub pair-returns : goal.pair-returns
 pair-returns t c =
-    let h = halves c.args.deep c.in-ok-subtree.ensures c.in-ok-expect.ensures c.in-ok-subtree-2.ensures c.in-ok-expect-2.ensures in
-    pair_good c.args.deep _ h c.in-ok-join.ensures c.if-not-join.ensures
+    let h = halves c.args.deep c.in_ok-subtree.ensures c.in_ok-expect.ensures c.in_ok-subtree-2.ensures c.in_ok-expect-2.ensures in
+    pair_good c.args.deep _ h c.in_ok-join.ensures c.if-not-join.ensures
 
 pub subtree-returns-else-deep-eq0 : goal.subtree-returns-else-deep-eq0
 subtree-returns-else-deep-eq0 t c =

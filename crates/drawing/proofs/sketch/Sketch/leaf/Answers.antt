@@ -15,4 +15,4 @@ put-requires c =
     }
 
 pub returns : goal.returns
-returns c = leaf_built c.args.line c.args.self.now _ _ _ c.requires.ready c.requires.line c.requires.free c.two-stations.ensures c.put.ensures
+returns c = leaf_built c.args.line c.args.self.now _ _ _ c.requires.ready c.requires.line c.requires.free c.two_stations.ensures c.put.ensures

@@ -10,6 +10,6 @@ returns-then-fields-ne-COLUMNS c = sym (wrong_count c.args.self.now.stations c.a
 
 pub returns : goal.returns
 returns c =
-    c.line-of.ensures
+    c.line_of.ensures
     ∙ (λ i. line_by cap c.args.self.now.stations c.args.k (meaning (c.get.ensures i)) (meaning (c.get-2.ensures i)) (meaning (c.get-3.ensures i)) (meaning (c.get-4.ensures i)))
     ∙ right_count c.args.self.now.stations c.args.k c.args.fields.now c.args.self.now.few c.requires c.if-k-gt-MOST.false c.if-fields-ne-COLUMNS.false

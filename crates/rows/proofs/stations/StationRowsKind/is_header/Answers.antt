@@ -9,6 +9,6 @@ returns-then-fields-ne-COLUMNS c = sym (no_header c.args.fields.now c.requires c
 
 pub returns : goal.returns
 returns c =
-    c.are-titles.ensures
+    c.are_titles.ensures
     ∙ (λ i. titled (meaning (c.get.ensures i)) (meaning (c.get-2.ensures i)) (meaning (c.get-3.ensures i)) (meaning (c.get-4.ensures i)) (meaning (c.get-5.ensures i)))
     ∙ sym (header_is c.args.fields.now c.requires c.if-fields-ne-COLUMNS.false)
