@@ -11,13 +11,13 @@ returns-then-spot-reach g c =
     let v = c.args.spot.node in
     past_cells g.met.Y.Yardstick.lawful c.args.plant.now c.requires.ready v c.args.spot.left c.args.spot.right c.args.spot.hours (get_or c.args.reach.now v 0) (c.requires.known.is v (omega arith)) c.if-spot-reach.true c.requires.hours
 
-pub leaf-cell-requires : goal.leaf-cell-requires
-leaf-cell-requires g c =
+pub leaf_cell-requires : goal.leaf_cell-requires
+leaf_cell-requires g c =
     let p = c.args.plant.now in
     record { ready = c.requires.ready; within = leaf_in p c.requires.ready c.args.spot.node c.in-Leaf.line (leaf_at p c.requires.ready c.args.spot.node c.in-Leaf.line c.requires.within (sym c.in-Leaf.ensures)) }
 
-pub join-cell-requires : goal.join-cell-requires
-join-cell-requires g c =
+pub join_cell-requires : goal.join_cell-requires
+join_cell-requires g c =
     let p = c.args.plant.now in
     record {
       ready = c.requires.ready;

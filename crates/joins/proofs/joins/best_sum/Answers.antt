@@ -9,14 +9,14 @@ use Rattle.joins.proofs.joins.best_sum.Goals as goal
 pub loop-i-init : goal.loop-i-init
 loop-i-init g c =
     let y = g.Y.Yardstick in
-    let i = c.from-index-i.result in (
+    let i = c.from_index-i.result in (
       split_start y.plus c.args.first.now c.args.second.now c.args.between c.args.rest i
           (⊎_elim (λ lt. let z : i ≡ 0 = omega arith in inl z) (λ ge. let z : i + length c.args.second.now ≤ c.args.rest + 1 = omega arith in inr z) (cases_lt c.args.rest (length c.args.second.now))),
       omega arith,
     )
 
 pub joined-sum-requires : goal.joined-sum-requires
-joined-sum-requires g c κs p q e f =
+joined-sum-requires g c p q e f =
     let i = c.loop-i.i in
     let j = c.args.rest - i in
     let one = get_or_read c.args.first.now i c.index-first-i.result (omega arith) c.index-first-i.is None in

@@ -12,37 +12,37 @@ use Rattle.texts.specs.Verdict.{on_tree, accepted, refused}
 use Rattle.texts.proofs.Judging.{tables_read, tree_wrong, is_plant}
 use Rattle.texts.proofs.read.read.Goals as goal
 
-pub returns-in-err-nodes : goal.returns-in-err-nodes
-returns-in-err-nodes c =
-    let p = err_from_is_err_and c.from-residual-in-err-nodes.result c.from-residual-in-err-nodes.ensures.1 in
-    let a = c.in-ok-stations.stations in
-    let b = c.in-ok-lines.lines in
+pub returns-in_err-nodes : goal.returns-in_err-nodes
+returns-in_err-nodes c =
+    let p = err_from_is_err_and c.from_residual-in_err-nodes.result c.from_residual-in_err-nodes.ensures.1 in
+    let a = c.in_ok-stations.stations in
+    let b = c.in_ok-lines.lines in
     let ss = c.args.stations.now in
     let ls = c.args.lines.now in
     let tree = c.args.tree.now in
-    let fault = c.in-err-nodes.ensures in
-    let read = tables_read ss ls tree a b c.in-ok-within.ensures c.in-ok-within-2.ensures c.in-ok-within-3.ensures
-    c.in-ok-stations.ensures.verdict.1 c.in-ok-stations.ensures.verdict.0 c.in-ok-lines.ensures.verdict.0 in
-    let judged = ap (λ (l : List Line). Drawing.verdict a.count l tree) (sym c.as-slice.ensures) ∙ fault.judged in
+    let fault = c.in_err-nodes.ensures in
+    let read = tables_read ss ls tree a b c.in_ok-within.ensures c.in_ok-within-2.ensures c.in_ok-within-3.ensures
+    c.in_ok-stations.ensures.verdict.1 c.in_ok-stations.ensures.verdict.0 c.in_ok-lines.ensures.verdict.0 in
+    let judged = ap (λ (l : List Line). Drawing.verdict a.count l tree) (sym c.as_slice.ensures) ∙ fault.judged in
     rw (p.1, p.2) (read ∙ tree_wrong ss ls (listed a) (listed b) _ _ judged fault.part)
 
 pub returns : goal.returns
 returns c =
-    let a = c.in-ok-stations.stations in
-    let b = c.in-ok-lines.lines in
-    let n = c.in-ok-nodes.nodes in
+    let a = c.in_ok-stations.stations in
+    let b = c.in_ok-lines.lines in
+    let n = c.in_ok-nodes.nodes in
     let ss = c.args.stations.now in
     let ls = c.args.lines.now in
     let tree = c.args.tree.now in
-    let fine = c.in-ok-nodes.ensures in
-    let read = tables_read ss ls tree a b c.in-ok-within.ensures c.in-ok-within-2.ensures c.in-ok-within-3.ensures
-    c.in-ok-stations.ensures.verdict.1 c.in-ok-stations.ensures.verdict.0 c.in-ok-lines.ensures.verdict.0 in
-    let judged = ap (λ (l : List Line). Drawing.verdict a.count l tree) (sym c.as-slice.ensures) ∙ fine.judged in
-    let back : fine.tree ≡ tree_of (listed n) = sym (ap tree_of fine.nodes ∙ tree_of_numbered (net_of c.as-slice.result.now) fine.tree) in
+    let fine = c.in_ok-nodes.ensures in
+    let read = tables_read ss ls tree a b c.in_ok-within.ensures c.in_ok-within-2.ensures c.in_ok-within-3.ensures
+    c.in_ok-stations.ensures.verdict.1 c.in_ok-stations.ensures.verdict.0 c.in_ok-lines.ensures.verdict.0 in
+    let judged = ap (λ (l : List Line). Drawing.verdict a.count l tree) (sym c.as_slice.ensures) ∙ fine.judged in
+    let back : fine.tree ≡ tree_of (listed n) = sym (ap tree_of fine.nodes ∙ tree_of_numbered (net_of c.as_slice.result.now) fine.tree) in
     record {
       judged = read ∙ ap (on_tree (listed a) (listed b)) judged ∙ ap (accepted (listed a) (listed b)) back;
-      stations = c.in-ok-stations.ensures.verdict.1;
-      lines = c.in-ok-lines.ensures.verdict.1;
+      stations = c.in_ok-stations.ensures.verdict.1;
+      lines = c.in_ok-lines.ensures.verdict.1;
       nodes = fine.sound;
-      plant = is_plant a b (listed n) c.in-ok-stations.ensures.verdict.1 c.in-ok-lines.ensures.verdict.1 c.in-ok-stations.ensures.range.0 c.in-ok-lines.ensures.range.0 (subst (λ (l : List Line). Drawn a.count l (listed n)) c.as-slice.ensures fine.drawn);
+      plant = is_plant a b (listed n) c.in_ok-stations.ensures.verdict.1 c.in_ok-lines.ensures.verdict.1 c.in_ok-stations.ensures.range.0 c.in_ok-lines.ensures.range.0 (subst (λ (l : List Line). Drawn a.count l (listed n)) c.as_slice.ensures fine.drawn);
     }
