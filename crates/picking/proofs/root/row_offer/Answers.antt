@@ -6,8 +6,8 @@ use Rattle.picking.specs.Offers.{offer_of}
 use Rattle.picking.proofs.Offers.{one_offer, offers_step, offers_end}
 use Rattle.picking.proofs.root.row_offer.Goals as goal
 
-pub offer-at-next-requires : goal.offer-at-next-requires
-offer-at-next-requires g c =
+pub offer_at-next-requires : goal.offer_at-next-requires
+offer_at-next-requires g c =
     let row = c.args.row.now in
     let h = c.loop-hours.hours in
     let read = get_or_read row h c.index-row-hours.result c.loop-hours-test.true c.index-row-hours.is None in
@@ -23,7 +23,7 @@ loop-hours-preserved g c =
     let L = c.args.left.now in
     let R = c.args.right.now in
     let read = get_or_read row h c.index-row-hours.result c.loop-hours-test.true c.index-row-hours.is None in
-    rw (c.leading-best.ensures, c.offer-at-next.ensures, read)
+    rw (c.leading-best.ensures, c.offer_at-next.ensures, read)
     (offers_step laws y.plus L R c.args.budget e.node e.left e.right (cell_of row) h c.loop-hours.best (offer_of y.plus L R c.args.budget (record { node = e.node; left = e.left; right = e.right; hours = h }) (cell_of row h)) c.loop-hours.invariant
     (one_offer laws y.plus L R c.args.budget e.node e.left e.right (cell_of row) h (cell_of row h) c.if-not-left.false c.if-not-right.false refl))
 

@@ -10,18 +10,18 @@ use Rattle.solver.proofs.Steps.{step_leaf, step_join, step_less, leaves_halves, 
 use Rattle.solver.proofs.trace.trace_all.Goals as goal
 
 pub loop-spot-init : goal.loop-spot-init
-loop-spot-init g c = ((λ top h. h), c.put-off.ensures.whole, c.put-off.ensures.room ∙ c.requires.room)
+loop-spot-init g c = ((λ top h. h), c.put_off.ensures.whole, c.put_off.ensures.room ∙ c.requires.room)
 
 pub pop-requires : goal.pop-requires
 pop-requires g c = c.loop-spot.invariant.1
 
-pub shape-at-requires : goal.shape-at-requires
-shape-at-requires g c =
+pub shape_at-requires : goal.shape_at-requires
+shape_at-requires g c =
     let y = g.Y.Yardstick in
     let p = c.args.plant.now in
     let cells = c.args.cells.now in
     let top = c.args.root in
-    let first-held : held c.put-off.new.stack ≡ top ∷ [] = c.put-off.ensures.held ∙ ap (λ (xs : List Spot). xs ++ top ∷ []) c.requires.empty in
+    let first-held : held c.put_off.new.stack ≡ top ∷ [] = c.put_off.ensures.held ∙ ap (λ (xs : List Spot). xs ++ top ∷ []) c.requires.empty in
     let begun = subst (λ (xs : List Spot). Pending y.nil y.plus y.station y.line p cells top xs c.args.picked.now.open) (sym first-held) c.requires.pending in
     let now = c.loop-spot.invariant.0 top begun in
     let spot = c.in-Some.spot in
@@ -31,13 +31,13 @@ shape-at-requires g c =
     let entry = here.each spot (in_new spot xs) in
     entry.within
 
-pub split-at-split-requires : goal.split-at-split-requires
-split-at-split-requires g c =
+pub split_at-split-requires : goal.split_at-split-requires
+split_at-split-requires g c =
     let y = g.Y.Yardstick in
     let p = c.args.plant.now in
     let cells = c.args.cells.now in
     let top = c.args.root in
-    let first-held : held c.put-off.new.stack ≡ top ∷ [] = c.put-off.ensures.held ∙ ap (λ (xs : List Spot). xs ++ top ∷ []) c.requires.empty in
+    let first-held : held c.put_off.new.stack ≡ top ∷ [] = c.put_off.ensures.held ∙ ap (λ (xs : List Spot). xs ++ top ∷ []) c.requires.empty in
     let begun = subst (λ (xs : List Spot). Pending y.nil y.plus y.station y.line p cells top xs c.args.picked.now.open) (sym first-held) c.requires.pending in
     let now = c.loop-spot.invariant.0 top begun in
     let spot = c.in-Some.spot in
@@ -57,7 +57,7 @@ settle-requires g c =
     let p = c.args.plant.now in
     let cells = c.args.cells.now in
     let top = c.args.root in
-    let first-held : held c.put-off.new.stack ≡ top ∷ [] = c.put-off.ensures.held ∙ ap (λ (xs : List Spot). xs ++ top ∷ []) c.requires.empty in
+    let first-held : held c.put_off.new.stack ≡ top ∷ [] = c.put_off.ensures.held ∙ ap (λ (xs : List Spot). xs ++ top ∷ []) c.requires.empty in
     let begun = subst (λ (xs : List Spot). Pending y.nil y.plus y.station y.line p cells top xs c.args.picked.now.open) (sym first-held) c.requires.pending in
     let now = c.loop-spot.invariant.0 top begun in
     let spot = c.in-Some.spot in
@@ -71,13 +71,13 @@ settle-requires g c =
     let at = join_at p c.requires.ready spot.node j a b entry.within (sym c.in-Join.ensures) in
     record { wide = here.wide; first = omega (arith, at.first_below, at.within); within = omega (arith, at.middle_in, c.requires.ready.plant.few_stations) }
 
-pub put-off-requires-in-Join : goal.put-off-requires-in-Join
-put-off-requires-in-Join g c =
+pub put_off-requires-in-Join : goal.put_off-requires-in-Join
+put_off-requires-in-Join g c =
     let y = g.Y.Yardstick in
     let p = c.args.plant.now in
     let cells = c.args.cells.now in
     let top = c.args.root in
-    let first-held : held c.put-off.new.stack ≡ top ∷ [] = c.put-off.ensures.held ∙ ap (λ (xs : List Spot). xs ++ top ∷ []) c.requires.empty in
+    let first-held : held c.put_off.new.stack ≡ top ∷ [] = c.put_off.ensures.held ∙ ap (λ (xs : List Spot). xs ++ top ∷ []) c.requires.empty in
     let begun = subst (λ (xs : List Spot). Pending y.nil y.plus y.station y.line p cells top xs c.args.picked.now.open) (sym first-held) c.requires.pending in
     let now = c.loop-spot.invariant.0 top begun in
     let spot = c.in-Some.spot in
@@ -93,13 +93,13 @@ put-off-requires-in-Join g c =
     let short : length xs + 2 ≤ 128 = omega (arith, stack_short p xs, load_more (leaves_at p) xs spot, here.light, leaves_pos (sub (tree p) a), leaves_pos (sub (tree p) b)) in
     record { whole = c.in-Some.ensures.whole; room = omega (arith, c.in-Some.ensures.room, c.loop-spot.invariant.2) }
 
-pub put-off-requires-in-Join-2 : goal.put-off-requires-in-Join-2
-put-off-requires-in-Join-2 g c =
+pub put_off-requires-in-Join-2 : goal.put_off-requires-in-Join-2
+put_off-requires-in-Join-2 g c =
     let y = g.Y.Yardstick in
     let p = c.args.plant.now in
     let cells = c.args.cells.now in
     let top = c.args.root in
-    let first-held : held c.put-off.new.stack ≡ top ∷ [] = c.put-off.ensures.held ∙ ap (λ (xs : List Spot). xs ++ top ∷ []) c.requires.empty in
+    let first-held : held c.put_off.new.stack ≡ top ∷ [] = c.put_off.ensures.held ∙ ap (λ (xs : List Spot). xs ++ top ∷ []) c.requires.empty in
     let begun = subst (λ (xs : List Spot). Pending y.nil y.plus y.station y.line p cells top xs c.args.picked.now.open) (sym first-held) c.requires.pending in
     let now = c.loop-spot.invariant.0 top begun in
     let spot = c.in-Some.spot in
@@ -114,8 +114,8 @@ put-off-requires-in-Join-2 g c =
     let two-leaves = ap leaves at.tree_is ∙ leaves_halves j (sub (tree p) a) (sub (tree p) b) in
     let short : length xs + 2 ≤ 128 = omega (arith, stack_short p xs, load_more (leaves_at p) xs spot, here.light, leaves_pos (sub (tree p) a), leaves_pos (sub (tree p) b)) in
     let one : List Spot = c.second_spot.result ∷ [] in
-    let long : length (held c.put-off-in-Join.new.stack) ≡ length xs + 1 = ap length c.put-off-in-Join.ensures.held ∙ length-append xs one in
-    record { whole = c.put-off-in-Join.ensures.whole; room = omega (arith, c.put-off-in-Join.ensures.room, c.in-Some.ensures.room, c.loop-spot.invariant.2) }
+    let long : length (held c.put_off-in-Join.new.stack) ≡ length xs + 1 = ap length c.put_off-in-Join.ensures.held ∙ length-append xs one in
+    record { whole = c.put_off-in-Join.ensures.whole; room = omega (arith, c.put_off-in-Join.ensures.room, c.in-Some.ensures.room, c.loop-spot.invariant.2) }
 
 pub loop-spot-smaller-in-Join : goal.loop-spot-smaller-in-Join
 loop-spot-smaller-in-Join g c =
@@ -123,7 +123,7 @@ loop-spot-smaller-in-Join g c =
     let p = c.args.plant.now in
     let cells = c.args.cells.now in
     let top = c.args.root in
-    let first-held : held c.put-off.new.stack ≡ top ∷ [] = c.put-off.ensures.held ∙ ap (λ (xs : List Spot). xs ++ top ∷ []) c.requires.empty in
+    let first-held : held c.put_off.new.stack ≡ top ∷ [] = c.put_off.ensures.held ∙ ap (λ (xs : List Spot). xs ++ top ∷ []) c.requires.empty in
     let begun = subst (λ (xs : List Spot). Pending y.nil y.plus y.station y.line p cells top xs c.args.picked.now.open) (sym first-held) c.requires.pending in
     let now = c.loop-spot.invariant.0 top begun in
     let spot = c.in-Some.spot in
@@ -135,16 +135,16 @@ loop-spot-smaller-in-Join g c =
     let a = c.in-Join.first in
     let b = c.in-Join.second in
     let at = join_at p c.requires.ready spot.node j a b entry.within (sym c.in-Join.ensures) in
-    let s = c.split-at-split.result in
-    let of = c.split-at-split.ensures in
-    let second-held = c.put-off-in-Join.ensures.held in
-    let first_held_2 = c.put-off-in-Join-2.ensures.held in
+    let s = c.split_at-split.result in
+    let of = c.split_at-split.ensures in
+    let second-held = c.put_off-in-Join.ensures.held in
+    let first_held_2 = c.put_off-in-Join-2.ensures.held in
     let second_is = c.second_spot.ensures in
     let first_is = c.first_spot.ensures in
-    let all : held c.put-off-in-Join-2.new.stack ≡ (xs ++ second_spot j b spot s ∷ []) ++ first_spot j a spot s ∷ [] =
+    let all : held c.put_off-in-Join-2.new.stack ≡ (xs ++ second_spot j b spot s ∷ []) ++ first_spot j a spot s ∷ [] =
     first_held_2 ∙ ap (λ (ys : List Spot). ys ++ c.first_spot.result ∷ []) (second-held ∙ ap (λ (e : Spot). xs ++ e ∷ []) second_is) ∙ ap (λ (e : Spot). (xs ++ second_spot j b spot s ∷ []) ++ e ∷ []) first_is in
     let less = step_less y.nil y.plus y.station y.line p c.requires.ready cells top xs spot c.loop-spot.picked.open here j a b at of.0 s of.1 of.2 in
-    let lt : load (size_at p) (held c.put-off-in-Join-2.new.stack) < load (size_at p) (held c.loop-spot.stack) = omega (arith, less, ap (load (size_at p)) all, ap (load (size_at p)) popped) in
+    let lt : load (size_at p) (held c.put_off-in-Join-2.new.stack) < load (size_at p) (held c.loop-spot.stack) = omega (arith, less, ap (load (size_at p)) all, ap (load (size_at p)) popped) in
     lt
 
 pub loop-spot-preserved-in-Join : goal.loop-spot-preserved-in-Join
@@ -153,7 +153,7 @@ loop-spot-preserved-in-Join g c =
     let p = c.args.plant.now in
     let cells = c.args.cells.now in
     let top = c.args.root in
-    let first-held : held c.put-off.new.stack ≡ top ∷ [] = c.put-off.ensures.held ∙ ap (λ (xs : List Spot). xs ++ top ∷ []) c.requires.empty in
+    let first-held : held c.put_off.new.stack ≡ top ∷ [] = c.put_off.ensures.held ∙ ap (λ (xs : List Spot). xs ++ top ∷ []) c.requires.empty in
     let begun = subst (λ (xs : List Spot). Pending y.nil y.plus y.station y.line p cells top xs c.args.picked.now.open) (sym first-held) c.requires.pending in
     let now = c.loop-spot.invariant.0 top begun in
     let spot = c.in-Some.spot in
@@ -165,13 +165,13 @@ loop-spot-preserved-in-Join g c =
     let a = c.in-Join.first in
     let b = c.in-Join.second in
     let at = join_at p c.requires.ready spot.node j a b entry.within (sym c.in-Join.ensures) in
-    let s = c.split-at-split.result in
-    let of = c.split-at-split.ensures in
-    let second-held = c.put-off-in-Join.ensures.held in
-    let first_held_2 = c.put-off-in-Join-2.ensures.held in
+    let s = c.split_at-split.result in
+    let of = c.split_at-split.ensures in
+    let second-held = c.put_off-in-Join.ensures.held in
+    let first_held_2 = c.put_off-in-Join-2.ensures.held in
     let second_is = c.second_spot.ensures in
     let first_is = c.first_spot.ensures in
-    let all : held c.put-off-in-Join-2.new.stack ≡ (xs ++ second_spot j b spot s ∷ []) ++ first_spot j a spot s ∷ [] =
+    let all : held c.put_off-in-Join-2.new.stack ≡ (xs ++ second_spot j b spot s ∷ []) ++ first_spot j a spot s ∷ [] =
     first_held_2 ∙ ap (λ (ys : List Spot). ys ++ c.first_spot.result ∷ []) (second-held ∙ ap (λ (e : Spot). xs ++ e ∷ []) second_is) ∙ ap (λ (e : Spot). (xs ++ second_spot j b spot s ∷ []) ++ e ∷ []) first_is in (
       (λ t h.
           let was = c.loop-spot.invariant.0 t h in
@@ -179,8 +179,8 @@ loop-spot-preserved-in-Join g c =
           let next = step_join y.nil y.plus y.station y.line p c.requires.ready cells t xs spot c.loop-spot.picked.open is j a b at of.0 s of.1 of.2 in
           let marked = subst (λ ms. Pending y.nil y.plus y.station y.line p cells t ((xs ++ second_spot j b spot s ∷ []) ++ first_spot j a spot s ∷ []) ms) (sym c.settle.ensures) next in
           subst (λ (ys : List Spot). Pending y.nil y.plus y.station y.line p cells t ys c.settle.new.picked.open) (sym all) marked),
-      c.put-off-in-Join-2.ensures.whole,
-      c.put-off-in-Join-2.ensures.room ∙ c.put-off-in-Join.ensures.room ∙ c.in-Some.ensures.room ∙ c.loop-spot.invariant.2,
+      c.put_off-in-Join-2.ensures.whole,
+      c.put_off-in-Join-2.ensures.room ∙ c.put_off-in-Join.ensures.room ∙ c.in-Some.ensures.room ∙ c.loop-spot.invariant.2,
     )
 
 pub loop-spot-smaller : goal.loop-spot-smaller
@@ -189,7 +189,7 @@ loop-spot-smaller g c =
     let p = c.args.plant.now in
     let cells = c.args.cells.now in
     let top = c.args.root in
-    let first-held : held c.put-off.new.stack ≡ top ∷ [] = c.put-off.ensures.held ∙ ap (λ (xs : List Spot). xs ++ top ∷ []) c.requires.empty in
+    let first-held : held c.put_off.new.stack ≡ top ∷ [] = c.put_off.ensures.held ∙ ap (λ (xs : List Spot). xs ++ top ∷ []) c.requires.empty in
     let begun = subst (λ (xs : List Spot). Pending y.nil y.plus y.station y.line p cells top xs c.args.picked.now.open) (sym first-held) c.requires.pending in
     let now = c.loop-spot.invariant.0 top begun in
     let spot = c.in-Some.spot in
@@ -197,8 +197,8 @@ loop-spot-smaller g c =
     let popped = c.in-Some.ensures.popped in
     let here = subst (λ (ys : List Spot). Pending y.nil y.plus y.station y.line p cells top ys c.loop-spot.picked.open) popped now in
     let entry = here.each spot (in_new spot xs) in
-    let is = leaf_at p c.requires.ready spot.node c.in-default-shape-at.field-0 entry.within (sym c.in-default-shape-at.ensures) in
-    let lt : load (size_at p) xs < load (size_at p) (held c.loop-spot.stack) = omega (arith, ap (load (size_at p)) popped, load_more (size_at p) xs spot, size_leaf p spot c.in-default-shape-at.field-0 is) in
+    let is = leaf_at p c.requires.ready spot.node c.in_default-shape_at.field-0 entry.within (sym c.in_default-shape_at.ensures) in
+    let lt : load (size_at p) xs < load (size_at p) (held c.loop-spot.stack) = omega (arith, ap (load (size_at p)) popped, load_more (size_at p) xs spot, size_leaf p spot c.in_default-shape_at.field-0 is) in
     lt
 
 pub loop-spot-preserved : goal.loop-spot-preserved
@@ -207,7 +207,7 @@ loop-spot-preserved g c =
     let p = c.args.plant.now in
     let cells = c.args.cells.now in
     let top = c.args.root in
-    let first-held : held c.put-off.new.stack ≡ top ∷ [] = c.put-off.ensures.held ∙ ap (λ (xs : List Spot). xs ++ top ∷ []) c.requires.empty in
+    let first-held : held c.put_off.new.stack ≡ top ∷ [] = c.put_off.ensures.held ∙ ap (λ (xs : List Spot). xs ++ top ∷ []) c.requires.empty in
     let begun = subst (λ (xs : List Spot). Pending y.nil y.plus y.station y.line p cells top xs c.args.picked.now.open) (sym first-held) c.requires.pending in
     let now = c.loop-spot.invariant.0 top begun in
     let spot = c.in-Some.spot in
@@ -215,8 +215,8 @@ loop-spot-preserved g c =
     let popped = c.in-Some.ensures.popped in
     let here = subst (λ (ys : List Spot). Pending y.nil y.plus y.station y.line p cells top ys c.loop-spot.picked.open) popped now in
     let entry = here.each spot (in_new spot xs) in
-    let k = c.in-default-shape-at.field-0 in
-    let is = leaf_at p c.requires.ready spot.node k entry.within (sym c.in-default-shape-at.ensures) in (
+    let k = c.in_default-shape_at.field-0 in
+    let is = leaf_at p c.requires.ready spot.node k entry.within (sym c.in_default-shape_at.ensures) in (
       (λ t h.
           let was = c.loop-spot.invariant.0 t h in
           let it = subst (λ (ys : List Spot). Pending y.nil y.plus y.station y.line p cells t ys c.loop-spot.picked.open) popped was in
@@ -231,7 +231,7 @@ returns g c =
     let p = c.args.plant.now in
     let cells = c.args.cells.now in
     let top = c.args.root in
-    let first-held : held c.put-off.new.stack ≡ top ∷ [] = c.put-off.ensures.held ∙ ap (λ (xs : List Spot). xs ++ top ∷ []) c.requires.empty in
+    let first-held : held c.put_off.new.stack ≡ top ∷ [] = c.put_off.ensures.held ∙ ap (λ (xs : List Spot). xs ++ top ∷ []) c.requires.empty in
     let begun = subst (λ (xs : List Spot). Pending y.nil y.plus y.station y.line p cells top xs c.args.picked.now.open) (sym first-held) c.requires.pending in
     let now = c.loop-spot.invariant.0 top begun in
-    subst (λ (ys : List Spot). Pending y.nil y.plus y.station y.line p cells top ys c.loop-spot.picked.open) c.in-default.ensures.popped.0 now
+    subst (λ (ys : List Spot). Pending y.nil y.plus y.station y.line p cells top ys c.loop-spot.picked.open) c.in_default.ensures.popped.0 now
