@@ -8,19 +8,15 @@ use Rattle.plan.proofs.Steps.{accepted, books_station, old_station, takes_hold, 
 use Rattle.plan.proofs.Plan.set_hold.Goals as goal
 use Rattle.plan.proofs.Plan.set_hold.Goals.{in-0, in-1, in-2}
 
-pub invariant-of-self : goal.invariant-of-self
-invariant-of-self c =
+pub invariant_of-self : goal.invariant_of-self
+invariant_of-self c =
     let p = c.args.self.now in
-    let within : p.stations.count ≤ length p.stations.rows = let f = p.few in let w = p.wide in omega arith in (
-      (length-set p.stations.rows c.args.station _ ∙ p.wide.0, p.wide.1, p.wide.2),
-      (
-        p.few,
-        (
-          p.cheap,
-          (hidden_hold p.filled p.stations.count p.stations.rows _ _ c.args.station _ _ within c.if-station-self.false p.plant, tt),
-        ),
-      ),
-    )
+    let within : p.stations.count ≤ length p.stations.rows = let f = p.few in let w = p.wide in omega arith in record {
+      wide = (length-set p.stations.rows c.args.station _ ∙ p.wide.0, p.wide.1, p.wide.2);
+      few = p.few;
+      cheap = p.cheap;
+      plant = hidden_hold p.filled p.stations.count p.stations.rows _ _ c.args.station _ _ within c.if-station-self.false p.plant;
+    }
 
 pub returns : goal.returns
 returns c =

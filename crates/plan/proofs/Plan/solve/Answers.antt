@@ -21,7 +21,7 @@ pub hours-hours-requires : goal.hours-hours-requires
 hours-hours-requires g c =
     let p = plan_plant c.args.self.now c.if-not-self.false in
     let e = c.stations-2.ensures in
-    record { wide = c.in-ok-selection.ensures.wide; few = omega (arith, p.few_stations, ap length e); range = subst StationsInRange (sym e) p.stations }
+    record { wide = c.in_ok-selection.ensures.wide; few = omega (arith, p.few_stations, ap length e); range = subst StationsInRange (sym e) p.stations }
 
 pub gain-gain-requires : goal.gain-gain-requires
 gain-gain-requires g c =
@@ -29,7 +29,7 @@ gain-gain-requires g c =
     let e = c.stations-3.ensures in
     let f = c.lines-2.ensures in
     record {
-      wide = c.in-ok-selection.ensures.wide;
+      wide = c.in_ok-selection.ensures.wide;
       few = (omega (arith, p.few_stations, ap length e), omega (arith, p.few_lines, ap length f));
       range = (subst StationsInRange (sym e) p.stations, subst LinesInRange (sym f) p.lines);
     }
@@ -42,13 +42,13 @@ returns-then-not-self g c =
       cells = subst (λ (v : Ledger). Left g.Y.Yardstick.nil g.Y.Yardstick.plus g.Y.Yardstick.above g.Y.Yardstick.station g.Y.Yardstick.line v c.args.cells.now c.args.cells.now) shown refl;
     }
 
-pub returns-in-err-selection : goal.returns-in-err-selection
-returns-in-err-selection g c =
+pub returns-in_err-selection : goal.returns-in_err-selection
+returns-in_err-selection g c =
     let p = c.args.self.now in
     let e = c.if-not-self.false in
-    let err = err_from_is_err_and c.from-residual.result c.from-residual.ensures.1 in
+    let err = err_from_is_err_and c.from_residual.result c.from_residual.ensures.1 in
     let lent : Lent p (record { stations = c.stations.result; lines = c.lines.result; nodes = c.nodes.result; budget = p.budget }) = record { stations = c.stations.ensures; lines = c.lines.ensures; nodes = c.nodes.ensures; budget = refl } in
-    let answer = c.in-err-selection.ensures in
+    let answer = c.in_err-selection.ensures in
     record {
       answer = rw (err.1, err.2) (unsolved g.Y.Yardstick.nil g.Y.Yardstick.plus g.Y.Yardstick.above g.Y.Yardstick.station g.Y.Yardstick.line p _ lent e (plan_plant p e) c.args.cells.now _ _ answer);
       cells = left_unsolved g.Y.Yardstick.nil g.Y.Yardstick.plus g.Y.Yardstick.above g.Y.Yardstick.station g.Y.Yardstick.line p _ lent e (plan_plant p e) c.args.cells.now _ _ answer;
@@ -59,8 +59,8 @@ returns g c =
     let p = c.args.self.now in
     let e = c.if-not-self.false in
     let lent : Lent p (record { stations = c.stations.result; lines = c.lines.result; nodes = c.nodes.result; budget = p.budget }) = record { stations = c.stations.ensures; lines = c.lines.ensures; nodes = c.nodes.ensures; budget = refl } in
-    let chosen = c.in-ok-selection.ensures in
-    let s = c.in-ok-selection.selection in
+    let chosen = c.in_ok-selection.ensures in
+    let s = c.in_ok-selection.selection in
     let fits : SFits w64 c.gain-gain.result = search rules in
     let takes = c.hours-hours.ensures.value ∙ ap (λ (ss : List Station). hours ss (among s)) c.stations-2.ensures in
     let gains = to_z-of_z w64 c.gain-gain.result fits ∙ c.gain-gain.ensures.value ∙ (λ i. gain (c.stations-3.ensures i) (c.lines-2.ensures i) (among s)) in

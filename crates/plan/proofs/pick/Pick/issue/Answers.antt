@@ -4,7 +4,11 @@ use Rattle.std.proofs.lemmas.Bool.{false≢true}
 use Rattle.plan.proofs.Working.{none_in}
 use Rattle.plan.proofs.pick.Pick.issue.Goals as goal
 
-pub invariant-of-result : goal.invariant-of-result
-invariant-of-result c =
+pub invariant_of-result : goal.invariant_of-result
+invariant_of-result c =
     let k = c.args.self in
-    ((k.wide, ap length c.none.ensures ∙ length-replicate 64 false), (k.filled, ((λ j e. absurd (false≢true (sym (none_in c.none.result c.none.ensures j) ∙ e))), tt)))
+    record {
+      wide = (k.wide, ap length c.none.ensures ∙ length-replicate 64 false);
+      filled = k.filled;
+      inside = λ j e. absurd (false≢true (sym (none_in c.none.result c.none.ensures j) ∙ e));
+    }
