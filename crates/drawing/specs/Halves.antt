@@ -8,8 +8,8 @@ use Rattle.plant.specs.Nodes.{size}
 use Rattle.drawing.specs.declared.half.Half.{Half}
 
 -- the first n are marked
-abbrev pub All : List Bool → ℕ → Type 0
-All xs n = (i : ℕ) → i < n → slice_index_or xs i false ≡ true
+abbrev pub AllMarked : List Bool → ℕ → Type 0
+AllMarked xs n = (i : ℕ) → i < n → slice_index_or xs i false ≡ true
 
 -- the two share no station but x and y
 abbrev pub ShareOnly : List Bool → List Bool → ℕ → ℕ → Type 0
@@ -22,7 +22,7 @@ Meet Parallel p q = (p.left ≡ q.left) × (p.right ≡ q.right) × ShareOnly p.
 
 -- the half is the piece of n stations from the first to the last
 abbrev pub Spans : ℕ → Half → Type 0
-Spans n h = All h.stations n × (h.left ≡ 0) × (h.right + 1 ≡ n)
+Spans n h = AllMarked h.stations n × (h.left ≡ 0) × (h.right + 1 ≡ n)
 
 abbrev pub either : ℕ → ℕ → ℕ → Bool
 either x y i = x == i || y == i

@@ -13,7 +13,7 @@ use Rattle.plant.specs.Tables.{listed, Sound}
 use Rattle.drawing.specs.declared.half.Half.{Half}
 use Rattle.drawing.specs.declared.sketch.Sketch.{Sketch}
 use Rattle.drawing.specs.Grammar.{Lines, with_lines}
-use Rattle.drawing.specs.Halves.{half, marks, Meet, All, Spans}
+use Rattle.drawing.specs.Halves.{half, marks, Meet, AllMarked, Spans}
 
 -- the plant's net
 abbrev pub net : Sketch → Net
@@ -74,7 +74,7 @@ pub record Built (t : Tree) (before after : Sketch) : Type 0 where
 
 -- every line is named, and the half is the piece of n stations from the first to the last
 abbrev pub Complete : Sketch → ℕ → Half → Type 0
-Complete s n h = All s.named (length s.lines.now) × Spans n h
+Complete s n h = AllMarked s.named (length s.lines.now) × Spans n h
 
 -- nothing is read yet
 pub record Blank (s : Sketch) : Type 0 where

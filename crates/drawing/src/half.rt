@@ -1,6 +1,6 @@
 // A half that waits for its join.
 ghost use Rattle.std.specs.Prelude.{◌≡◌, ℕ, ◌<◌, ◌≤◌, Bool, true, false, ◌||◌, length, replicate, Decides, slice_index_or};
-ghost use Rattle.drawing.specs.Halves.{All, ShareOnly, Meet, Spans, marks, either};
+ghost use Rattle.drawing.specs.Halves.{AllMarked, ShareOnly, Meet, Spans, marks, either};
 
 use plant::limits::MAX_STATIONS;
 use plant::tree::Join;
@@ -84,7 +84,7 @@ fn share_only(a: &[bool], b: &[bool], x: usize, y: usize) -> bool
 // Whether the first `n` are marked.
 pub fn all_marked(marks: &[bool], n: usize) -> bool
     requires { n ≤ length marks.now }
-    ensures { Decides result (All marks.now n) }
+    ensures { Decides result (AllMarked marks.now n) }
 {
     for i in 0..n {
         if !marks[i] {

@@ -1,6 +1,6 @@
 -- A text is accepted exactly when it is the writing of rows, and refused exactly where its first fault is.
 use Rattle.std.proofs.Common.{◌≡◌, ℕ, ◌+◌, ◌-◌, ◌<◌, ◌≤◌, false, cond, ltb, ◌⊎◌, List, [], ◌∷◌, ◌++◌, map, length, Ok, Err, Result, sym, refl, ap, ◌∙◌, subst, inl, inr, ⊎_elim, append_assoc, append-nil, arith}
-use Rattle.std.specs.List.{AllByRecursion as All}
+use Rattle.std.specs.List.{AllByRecursion}
 use Rattle.std.proofs.ByRecursion.{All-push}
 use Rattle.std.proofs.lemmas.List.{length_push, map-append}
 use Rattle.std.proofs.lemmas.Bool.{cases_Bool, both_ways, lt-ltb, le-ltb, ltb-true, ltb-false, cond_both}
@@ -139,7 +139,7 @@ module _ {A : Type 0} (U : Rules A) (F : Form A) (J : Judges U F) where
 
   -- ---- what is written is accepted
 
-  rows_taken : (rs : List W.Row) (more : List A) (n : ℕ) (t : Told) (rows : List A) → All W.Proper rs → map meant rs ≡ cells_from F (length rows) more → All (Fair F) more → length rows + length more ≤ F.most → after U n (onto (map parts rs) t) rows ≡ after U n t (rows ++ more)
+  rows_taken : (rs : List W.Row) (more : List A) (n : ℕ) (t : Told) (rows : List A) → AllByRecursion W.Proper rs → map meant rs ≡ cells_from F (length rows) more → AllByRecursion (Fair F) more → length rows + length more ≤ F.most → after U n (onto (map parts rs) t) rows ≡ after U n t (rows ++ more)
   rows_taken [] [] n t rows p e f le = ap (after U n t) (sym (append-nil rows))
   rows_taken [] (a ∷ more) n t rows p e f le = let z : ◌≡◌ {A = ℕ} 0 1 = cc in clash z
   rows_taken (r ∷ rs) [] n t rows p e f le = let z : ◌≡◌ {A = ℕ} 0 1 = cc in clash z
@@ -152,7 +152,7 @@ module _ {A : Type 0} (U : Rules A) (F : Form A) (J : Judges U F) where
       ∙ ap (after U n t) (append_assoc rows (a ∷ []) more)
 
   -- records in order are taken, whatever is told after them
-  lists_taken : (rs : List W.Row) (rows : List A) (n : ℕ) (t : Told) → All W.Proper rs → Lists F rs rows → first U n (onto (map parts rs) t) ≡ after U n t rows
+  lists_taken : (rs : List W.Row) (rows : List A) (n : ℕ) (t : Told) → AllByRecursion W.Proper rs → Lists F rs rows → first U n (onto (map parts rs) t) ≡ after U n t rows
   lists_taken [] rows n t p l = let e = l.cells in let z : ◌≡◌ {A = ℕ} 0 1 = cc in clash z
   lists_taken (r ∷ rs) rows n t p l =
       let both = from_cons (meant r) F.head (map meant rs) (cells_from F 0 rows) l.cells in

@@ -1,6 +1,6 @@
 -- How the reading of a text goes on after its first records.
 use Rattle.std.proofs.Common.{◌≡◌, ℕ, ◌+◌, ◌-◌, ◌<◌, ◌≤◌, ◌⊎◌, List, [], ◌∷◌, ◌++◌, map, length, take, drop, sym, refl, ap, ◌∙◌, subst, inl, inr, ⊎_elim, append_assoc, arith}
-use Rattle.std.specs.List.{AllByRecursion as All}
+use Rattle.std.specs.List.{AllByRecursion}
 use Rattle.std.proofs.ByRecursion.{All-append, All-push}
 use Rattle.std.proofs.lemmas.List.{length-append, take-take, take-append-drop}
 use Rattle.std.proofs.lemmas.Bool.{cases_order}
@@ -17,14 +17,14 @@ clash e = absurd (omega arith)
 
 -- ---- from the parts of a record to what its fields mean
 
-means_all : (fs : List W.Field) → All W.Allowed fs → map meaning (map W.bytes fs) ≡ map W.contents fs
+means_all : (fs : List W.Field) → AllByRecursion W.Allowed fs → map meaning (map W.bytes fs) ≡ map W.contents fs
 means_all [] h = refl
 means_all (f ∷ fs) h = λ k. means f h.0 k ∷ means_all fs h.1 k
 
 pub meant_is : (r : W.Row) → W.Proper r → map meaning (parts r) ≡ meant r
 meant_is r h = means_all (W.fields r) (All-append W.Allowed r.front (r.last ∷ []) h.front (h.last, tt))
 
-pub proper_rows : (t : W.Table) → W.Whole t → All W.Proper (W.rows t)
+pub proper_rows : (t : W.Table) → W.Whole t → AllByRecursion W.Proper (W.rows t)
 proper_rows (W.ended rs) h = h.0
 proper_rows (W.cut rs r) h = All-append W.Proper rs (r ∷ []) h.0 (h.1, tt)
 

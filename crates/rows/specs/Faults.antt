@@ -1,6 +1,6 @@
 -- What a refusal of a table's text says: the first fault, and that everything before it is in order. Assumes nothing.
 use Rattle.std.specs.Prelude.{◌≡◌, ℕ, ◌+◌, ◌<◌, ◌≤◌, ◌⊎◌, List, [], ◌++◌, length, slice_index_or}
-use Rattle.std.specs.List.{AllByRecursion as All}
+use Rattle.std.specs.List.{AllByRecursion}
 use Rattle.plant.specs.declared.refusal.Reason.{Reason}
 use Rattle.plant.specs.declared.refusal.Reason.TheVariants.{TextTooLong, MemoryTooShort, TableGrammar, FieldCount, FieldForm, RowNumber, RowCount, LineEnds, TreeGrammar, TooDeep, LeafNumber, HalvesApart, NotThePlant, Blank, NoSuchRecord, OutOfRange, NothingFits, NotOpen}
 use Rattle.tables.specs.Laws.{Refused, Follows}
@@ -52,7 +52,7 @@ Breaks F k cs NotOpen = ⊥
 
 -- The text is these records, each with its CRLF, and then the rest.
 pub record After (s : List ℕ) (before : List W.Row) (rest : List ℕ) : Type 0 where
-  pub proper : All W.Proper before
+  pub proper : AllByRecursion W.Proper before
   pub split : s ≡ W.lines before ++ rest
 
 -- The rest of a text begins with this record, which ends with its CRLF or where the text ends.

@@ -1,6 +1,6 @@
 -- How stations and lines are written as a table. Assumes nothing.
 use Rattle.std.specs.Prelude.{◌≡◌, ℕ, ◌+◌, ◌≤◌, Bool, true, false, List, [], ◌∷◌, map, length, codes}
-use Rattle.std.specs.List.{AllByRecursion as All}
+use Rattle.std.specs.List.{AllByRecursion}
 use Rattle.plant.specs.declared.records.Hold.{Hold}
 use Rattle.plant.specs.declared.records.Hold.TheVariants as H
 use Rattle.plant.specs.declared.records.Line.{Line}
@@ -35,7 +35,7 @@ meant r = map W.contents (W.fields r)
 -- these records are the header and these rows
 pub record Lists {A : Type 0} (F : Form A) (records : List W.Row) (rows : List A) : Type 0 where
   pub cells : map meant records ≡ F.head ∷ cells_from F 0 rows
-  pub fair : All (Fair F) rows
+  pub fair : AllByRecursion (Fair F) rows
   pub few : length rows ≤ F.most
 
 -- the text is a table of the header and these rows, and they are enough

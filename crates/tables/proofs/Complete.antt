@@ -1,6 +1,6 @@
 -- What is written is read. Assumes nothing.
 use Rattle.std.proofs.Common.{◌≡◌, ℕ, zero, suc, ◌+◌, ◌-◌, ◌<◌, ◌≤◌, Bool, true, false, cond, ◌&&◌, eqb, ltb, leb, ◌⊎◌, List, [], ◌∷◌, ◌++◌, map, length, get_or, take, drop, sym, refl, ap, ◌∙◌, subst, inl, inr, ⊎_elim, append_assoc, append-nil, arith}
-use Rattle.std.specs.List.{AllByRecursion as All}
+use Rattle.std.specs.List.{AllByRecursion}
 use Rattle.std.proofs.lemmas.List.{length-append, length-drop, map-append, take_at, take_more, drop_more, drop_at}
 use Rattle.std.proofs.lemmas.Bool.{eqb-true, eqb-false, ne_eqb, le-leb, and_from, and_parts, cond_both, both_ways, lt-ltb}
 use Rattle.tables.specs.declared.grammar.State.{State}
@@ -32,12 +32,12 @@ inside_next b h n =
     (λ s. ⊎_elim (λ x. absurd (eqb-false b 13 g x)) (λ x. absurd (eqb-false b 10 i x)) s)
     h)))))
 
-plain_run : (cs : List ℕ) → All Bare cs → (s p : List ℕ) (ps : List (List ℕ)) → tell (cs ++ s) S.Plain p ps ≡ tell s S.Plain (p ++ cs) ps
+plain_run : (cs : List ℕ) → AllByRecursion Bare cs → (s p : List ℕ) (ps : List (List ℕ)) → tell (cs ++ s) S.Plain p ps ≡ tell s S.Plain (p ++ cs) ps
 plain_run [] h s p ps = ap (λ x. tell s S.Plain x ps) (sym (append-nil p))
 plain_run (b ∷ cs) h s p ps =
     ap (λ k. move (next S.Plain k) b (cs ++ s) p ps (tell (cs ++ s))) (bare_class b h.0) ∙ plain_run cs h.1 s (p ++ b ∷ []) ps ∙ ap (λ x. tell s S.Plain x ps) (append_assoc p (b ∷ []) cs)
 
-quoted_run : (cs : List ℕ) → All Inside cs → (s p : List ℕ) (ps : List (List ℕ)) → tell (doubled cs ++ s) S.Quoted p ps ≡ tell s S.Quoted (p ++ doubled cs) ps
+quoted_run : (cs : List ℕ) → AllByRecursion Inside cs → (s p : List ℕ) (ps : List (List ℕ)) → tell (doubled cs ++ s) S.Quoted p ps ≡ tell s S.Quoted (p ++ doubled cs) ps
 quoted_run [] h s p ps = ap (λ x. tell s S.Quoted x ps) (sym (append-nil p))
 quoted_run (b ∷ cs) h s p ps =
     cond_both (eqb b 34) _ _ (λ d. tell (d ++ s) S.Quoted p ps ≡ tell s S.Quoted (p ++ d) ps)
@@ -53,7 +53,7 @@ abbrev state_of : Field → State
 state_of (bare cs) = plain_of cs
 state_of (quoted cs) = S.Closed
 
-bare_run : (cs : List ℕ) → All Bare cs → (s : List ℕ) (ps : List (List ℕ)) → tell (cs ++ s) S.Start [] ps ≡ tell s (plain_of cs) cs ps
+bare_run : (cs : List ℕ) → AllByRecursion Bare cs → (s : List ℕ) (ps : List (List ℕ)) → tell (cs ++ s) S.Start [] ps ≡ tell s (plain_of cs) cs ps
 bare_run [] h s ps = refl
 bare_run (b ∷ cs) h s ps = ap (λ k. move (next S.Start k) b (cs ++ s) [] ps (tell (cs ++ s))) (bare_class b h.0) ∙ plain_run cs h.1 s (b ∷ []) ps
 
@@ -85,7 +85,7 @@ end_run : (f : Field) (p : List ℕ) (ps : List (List ℕ)) → tell [] (state_o
 end_run (bare cs) p ps = plain_end cs p ps
 end_run (quoted cs) p ps = refl
 
-leads_run : (fs : List Field) → All Allowed fs → (s : List ℕ) (ps : List (List ℕ)) → tell (leads fs ++ s) S.Start [] ps ≡ tell s S.Start [] (ps ++ map bytes fs)
+leads_run : (fs : List Field) → AllByRecursion Allowed fs → (s : List ℕ) (ps : List (List ℕ)) → tell (leads fs ++ s) S.Start [] ps ≡ tell s S.Start [] (ps ++ map bytes fs)
 leads_run [] h s ps = ap (λ x. tell s S.Start [] x) (sym (append-nil ps))
 leads_run (f ∷ fs) h s ps =
     ap (λ x. tell x S.Start [] ps) (append_assoc (bytes f) (44 ∷ leads fs) s) ∙ field_run f h.0 (44 ∷ (leads fs ++ s)) ps ∙ comma_run f (leads fs ++ s) (bytes f) ps ∙ leads_run fs h.1 s (ps ++ bytes f ∷ []) ∙ ap (λ x. tell s S.Start [] x) (append_assoc ps (bytes f ∷ []) (map bytes fs))
@@ -117,13 +117,13 @@ onto (ps ∷ pss) t = row ps (onto pss t)
 long : (r : Row) (s : List ℕ) → 0 < length (line r ++ 13 ∷ 10 ∷ s)
 long r s = omega (arith, length-append (line r) (13 ∷ 10 ∷ s))
 
-lines_run : (rs : List Row) → All Proper rs → (s : List ℕ) → again (lines rs ++ s) ≡ onto (map parts rs) (again s)
+lines_run : (rs : List Row) → AllByRecursion Proper rs → (s : List ℕ) → again (lines rs ++ s) ≡ onto (map parts rs) (again s)
 lines_run [] h s = refl
 lines_run (r ∷ rs) h s =
     ap again (append_assoc (line r) (13 ∷ 10 ∷ lines rs) s) ∙ again_is (line r ++ 13 ∷ 10 ∷ (lines rs ++ s)) (long r (lines rs ++ s)) ∙ line_run r h.0 (lines rs ++ s) ∙ ap (λ t. row (parts r) t) (lines_run rs h.1 s)
 
 -- and a whole text
-pub lines_whole : (r : Row) (rs : List Row) → All Proper (r ∷ rs) → (s : List ℕ) → whole (lines (r ∷ rs) ++ s) ≡ onto (map parts (r ∷ rs)) (again s)
+pub lines_whole : (r : Row) (rs : List Row) → AllByRecursion Proper (r ∷ rs) → (s : List ℕ) → whole (lines (r ∷ rs) ++ s) ≡ onto (map parts (r ∷ rs)) (again s)
 lines_whole r rs h s =
     ap whole (append_assoc (line r) (13 ∷ 10 ∷ lines rs) s) ∙ line_run r h.0 (lines rs ++ s) ∙ ap (λ t. row (parts r) t) (lines_run rs h.1 s)
 
@@ -202,7 +202,7 @@ single_other : (b : ℕ) (s : List ℕ) → (b ≡ 34 → ⊥) → single (b ∷
 single_other b [] n = refl
 single_other b (d ∷ s) n = rw (ne_eqb b 34 n) refl
 
-single_bare : (cs : List ℕ) → All Bare cs → single cs ≡ cs
+single_bare : (cs : List ℕ) → AllByRecursion Bare cs → single cs ≡ cs
 single_bare [] h = refl
 single_bare (b ∷ cs) h = single_other b cs h.0.1 ∙ ap (λ l. b ∷ l) (single_bare cs h.1)
 
@@ -213,7 +213,7 @@ single_doubled (b ∷ cs) =
     (λ e. (λ i. sym (eqb-true b 34 e) i ∷ single_doubled cs i))
     (λ e. single_other b (doubled cs) (eqb-false b 34 e) ∙ ap (λ l. b ∷ l) (single_doubled cs))
 
-inner_bare : (cs : List ℕ) → All Bare cs → inner cs ≡ cs
+inner_bare : (cs : List ℕ) → AllByRecursion Bare cs → inner cs ≡ cs
 inner_bare [] h = refl
 inner_bare (b ∷ cs) h = cond_both (ltb 1 (length (b ∷ cs)) && eqb b 34) (take (length (b ∷ cs) - 1 - 1) cs) (b ∷ cs) (λ l. l ≡ b ∷ cs) (λ e. absurd (h.0.1 (eqb-true b 34 (and_parts (ltb 1 (length (b ∷ cs))) (eqb b 34) e).1))) (λ e. refl)
 

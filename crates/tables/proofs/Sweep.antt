@@ -1,6 +1,6 @@
 -- What is read is written, and what is read before a fault can be completed. Assumes nothing.
 use Rattle.std.proofs.Common.{◌≡◌, ℕ, zero, suc, ◌+◌, ◌-◌, ◌<◌, ◌≤◌, Bool, true, false, cond, ◌&&◌, eqb, leb, ◌⊎◌, List, [], ◌∷◌, ◌++◌, map, length, take, drop, sym, refl, ap, ◌∙◌, subst, inl, inr, ⊎_elim, append_assoc, append-nil, arith}
-use Rattle.std.specs.List.{AllByRecursion as All}
+use Rattle.std.specs.List.{AllByRecursion}
 use Rattle.std.proofs.ByRecursion.{All-push}
 use Rattle.std.proofs.lemmas.List.{map_push, length-append, length_push}
 use Rattle.std.proofs.lemmas.Bool.{eqb-true, eqb-false, ne_eqb, leb-true, and_parts, cond_both}
@@ -34,15 +34,15 @@ class_is b =
 -- the bytes of a part so far
 abbrev pub Mid : State → List ℕ → Type 0
 Mid S.Start p = p ≡ []
-Mid S.Plain p = All Bare p
-Mid S.Quoted p = (cs : List ℕ) × All Inside cs × (p ≡ 34 ∷ doubled cs)
-Mid S.Closed p = (cs : List ℕ) × All Inside cs × (p ≡ 34 ∷ (doubled cs ++ 34 ∷ []))
+Mid S.Plain p = AllByRecursion Bare p
+Mid S.Quoted p = (cs : List ℕ) × AllByRecursion Inside cs × (p ≡ 34 ∷ doubled cs)
+Mid S.Closed p = (cs : List ℕ) × AllByRecursion Inside cs × (p ≡ 34 ∷ (doubled cs ++ 34 ∷ []))
 Mid S.Return p = ⊥
 
 -- the fields before, and the part so far
 pub record Within (st : State) (p : List ℕ) (ps : List (List ℕ)) (c : List ℕ) : Type 0 where
   pub fs : List Field
-  pub allowed : All Allowed fs
+  pub allowed : AllByRecursion Allowed fs
   pub same : ps ≡ map bytes fs
   pub read : c ≡ leads fs ++ p
   pub mid : Mid st p
@@ -123,8 +123,8 @@ end_return st p ps c b e w i = let P : ℕ → Type 0 = λ x. Lined (13 ∷ []) 
 inside : (p : List ℕ) (b : ℕ) → Mid S.Quoted p → (b ≡ 34 → ⊥) → Inside b → Mid S.Quoted (p ++ b ∷ [])
 inside p b m n i = (m.0 ++ b ∷ [], All-push Inside m.0 b m.1 i, ap (λ l. l ++ b ∷ []) m.2 ∙ ap (λ l. 34 ∷ l) (sym (doubled_other m.0 b n)))
 
-start_plain : (p : List ℕ) (b : ℕ) → p ≡ [] → Bare b → All Bare (p ++ b ∷ [])
-start_plain p b e h = let P : List ℕ → Type 0 = λ l. All Bare (l ++ b ∷ []) in subst P (sym e) (h, tt)
+start_plain : (p : List ℕ) (b : ℕ) → p ≡ [] → Bare b → AllByRecursion Bare (p ++ b ∷ [])
+start_plain p b e h = let P : List ℕ → Type 0 = λ l. AllByRecursion Bare (l ++ b ∷ []) in subst P (sym e) (h, tt)
 
 start_quote : (p : List ℕ) (b : ℕ) → p ≡ [] → b ≡ 34 → Mid S.Quoted (p ++ b ∷ [])
 start_quote p b e h = ([], tt, (λ k. e k ++ h k ∷ []))
@@ -234,7 +234,7 @@ Tells w rs (row ps t) = (x : Stands w rs ps) × Tells w (rs ++ x.r ∷ []) t
 pub record Here (w s : List ℕ) (st : State) (p : List ℕ) (ps : List (List ℕ)) (rs : List Row) : Type 0 where
   pub c : List ℕ
   pub front : List ℕ
-  pub proper : All Proper rs
+  pub proper : AllByRecursion Proper rs
   pub begun : Begun st p ps c
   pub some : (rs ≡ []) ⊎ (0 < length c + length s)
   pub is : front ≡ lines rs ++ c

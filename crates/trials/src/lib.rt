@@ -8,4 +8,4 @@ mod limits;
 #[cfg(test)]
 mod small;
 #[cfg(test)]
-mod texts;
+mod three_texts;
