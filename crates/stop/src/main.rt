@@ -1,12 +1,12 @@
 // Three files and a budget of hours: the best list, printed.
 #![tactic(auto)]
 
-use anyhow::anyhow;
 use plan::Plan;
 use plan::sheet::refusal_line;
 use plan::words::InWords;
 use plant::refusal::{Part, Reason, Refusal};
 use std::io::{Read, Write};
+use std::process::ExitCode;
 use std::{fs, io};
 use tables::numbers::natural;
 use yardsticks::money::Money;
@@ -115,13 +115,13 @@ fn print_refusal(rt: &HostRuntime, refusal: Refusal) -> io::Result<()> {
     eprintln!(rt; "{words}")
 }
 
-fn main(rt: HostRuntime) -> anyhow::Result<()> {
+fn main(rt: HostRuntime) -> anyhow::Result<ExitCode> {
     let mut cells = vec![in rt.alloc(); None; CELLS]?;
     match work(&rt, cells.as_mut_slice()) {
-        Ok(()) => Ok(()),
+        Ok(()) => Ok(ExitCode::SUCCESS),
         Err(Trouble::Refused(refusal)) => {
             print_refusal(&rt, refusal)?;
-            Err(anyhow!("refused"))
+            Ok(ExitCode::FAILURE)
         }
         Err(Trouble::Io(error)) => Err(error.into()),
     }
