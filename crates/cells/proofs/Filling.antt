@@ -1,15 +1,15 @@
 -- Filling the tables row by row: where rows lie, what a join's cells give, and what lies past a row's reach. Assumes nothing.
-use Rattle.std.proofs.Common.{◌≡◌, ℕ, ◌+◌, ◌-◌, ◌*◌, ◌<◌, ◌≤◌, Bool, true, false, List, Some, None, Option, refl, mul-le-mul_right, suc-mul, add-mul, arith}
+use Rattle.std.proofs.Common.{◌≡◌, ℕ, ◌+◌, ◌*◌, ◌<◌, ◌≤◌, Bool, true, false, List, Some, None, Option, refl, mul-le-mul_right, suc-mul, add-mul, arith}
 use Rattle.plant.specs.declared.tree.Join.{Join}
 use Rattle.plant.specs.declared.tree.Join.TheVariants.{Series, Parallel}
-use Rattle.plant.specs.Nodes.{size, joined}
+use Rattle.plant.specs.Nodes.{joined}
 use Rattle.plant.specs.Selections.{Selection}
 use Rattle.plant.specs.Trees.{Tree, leaf, series, parallel, right, Builds}
 use Rattle.yardsticks.specs.Laws.{Ops, limit, record_limit}
 use Rattle.cells.specs.Tops.{Tops, Split, cell_of}
 use Rattle.cells.specs.Inside.{Site, Scores, mid_hours, inner_hours, Choice, records, Modest}
 use Rattle.cells.specs.Joins.{between_figure, Through}
-use Rattle.cells.specs.Tables.{bit, row_start, place, memory, Done, most}
+use Rattle.cells.specs.Tables.{bit, row_start, place, Done, most}
 use Rattle.cells.proofs.Topping.{tops_same}
 use Rattle.cells.proofs.Cells.{series_tops, parallel_tops, choice_size, mid_size}
 

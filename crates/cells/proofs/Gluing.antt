@@ -1,5 +1,5 @@
 -- Choices of a join are choices of its halves. Assumes nothing.
-use Rattle.std.proofs.Common.{◌≡◌, ℕ, ◌+◌, Bool, true, cond, ◌||◌, ◌⊎◌, sym, refl, ap, ◌∙◌, ⊎_elim}
+use Rattle.std.proofs.Common.{◌≡◌, ℕ, ◌+◌, Bool, true, cond, ◌||◌, sym, refl, ap, ◌∙◌, ⊎_elim}
 use Rattle.std.proofs.lemmas.Bool.{eqb-true, eq-eqb, cases_Bool, or_cases, or_left, or_right, cond-true, cond-false}
 use Rattle.plant.specs.Trees.{Tree, leaf, series, parallel, left, right, inner, station_of, InSeries, InParallel, Builds}
 use Rattle.plant.specs.Selections.{Selection}

@@ -1,5 +1,5 @@
 -- Each line in one leaf: the lines of two halves are apart, and the tree builds the whole. Assumes nothing.
-use Rattle.std.proofs.Common.{◌≡◌, ℕ, ◌+◌, ◌<◌, ◌≤◌, Bool, true, false, eqb, ◌⊎◌, List, length, refl, ⊎_elim, arith}
+use Rattle.std.proofs.Common.{◌≡◌, ℕ, ◌+◌, ◌<◌, ◌≤◌, Bool, true, false, eqb, List, length, refl, ⊎_elim, arith}
 use Rattle.std.proofs.lemmas.List.{get_or_past}
 use Rattle.std.proofs.lemmas.Bool.{eq-eqb, cases_lt, cases_Bool, or_cases, or_left, or_right, cond-true, cond-false, both_ways}
 use Rattle.yardsticks.specs.Laws.{Laws, record_limit}

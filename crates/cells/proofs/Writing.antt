@@ -1,5 +1,5 @@
 -- A trace that writes its states one after another. Assumes nothing.
-use Rattle.std.proofs.Common.{◌≡◌, ℕ, Bool, true, false, ◌||◌, ◌⊎◌, sym, ◌∙◌, subst, ⊎_elim}
+use Rattle.std.proofs.Common.{◌≡◌, ℕ, Bool, true, false, ◌||◌, sym, ◌∙◌, subst, ⊎_elim}
 use Rattle.std.proofs.lemmas.Bool.{or_parts, cases_Bool, eqb-false}
 use Rattle.plant.specs.Trees.{Tree, leaf, series, parallel, left, right, inner, station_of, Builds}
 use Rattle.plant.specs.Selections.{Selection}

@@ -1,6 +1,6 @@
 -- Trees of lines whose joins meet build their piece. Assumes nothing.
-use Rattle.std.proofs.Common.{◌≡◌, ℕ, ◌+◌, ◌<◌, ◌≤◌, Bool, true, false, cond, not, ◌&&◌, ◌||◌, eqb, ltb, ◌⊎◌, sym, refl, ap, ◌∙◌, subst, inl, inr, ⊎_elim, arith}
-use Rattle.std.proofs.lemmas.Bool.{eqb-true, eq-eqb, ne_eqb, cases_eq, cases_lt, ltb-true, ltb-false, le-ltb, lt-ltb, and_parts, and_from, or_cases, or_parts, or_from, or_left, or_right, both_ways, cond-true}
+use Rattle.std.proofs.Common.{◌≡◌, ℕ, ◌+◌, ◌<◌, ◌≤◌, true, false, ◌||◌, eqb, ltb, ◌⊎◌, sym, refl, inl, inr, ⊎_elim, arith}
+use Rattle.std.proofs.lemmas.Bool.{eqb-true, eq-eqb, ne_eqb, cases_eq, cases_lt, ltb-true, ltb-false, lt-ltb, and_parts, and_from, or_cases, or_parts, or_left, or_right, both_ways, cond-true}
 use Rattle.plant.specs.declared.tree.Join.{Join}
 use Rattle.plant.specs.declared.tree.Join.TheVariants.{Series, Parallel}
 use Rattle.plant.specs.Trees.{Net, Tree, leaf, series, parallel, left, right, inner, station_of, uses, InSeries, InParallel, Builds, Draws}

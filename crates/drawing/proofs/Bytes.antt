@@ -1,6 +1,6 @@
 -- Characters and their bytes. Assumes nothing.
-use Rattle.std.proofs.Common.{◌≡◌, ℕ, ◌+◌, ◌-◌, ◌*◌, ◌<◌, ◌≤◌, min, Bool, true, false, cond, ◌&&◌, eqb, leb, ◌⊎◌, List, [], ◌∷◌, length, drop, Some, None, Ok, Err, Option, sym, refl, ap, ◌∙◌, subst, inl, inr, ⊎_elim, arith}
-use Rattle.std.proofs.lemmas.Bool.{eqb-true, ne_eqb, eq-eqb, le-leb, lt-leb, leb-true, and_parts, and_from, cond_both, cond-true, cond-false}
+use Rattle.std.proofs.Common.{◌≡◌, ℕ, ◌+◌, ◌-◌, ◌*◌, ◌<◌, ◌≤◌, min, Bool, true, false, eqb, leb, List, [], ◌∷◌, length, drop, Some, None, Err, Option, sym, refl, ap, ◌∙◌, subst, arith}
+use Rattle.std.proofs.lemmas.Bool.{eqb-true, ne_eqb, le-leb, leb-true, and_parts, and_from, cond_both, cond-false}
 use Rattle.plant.specs.declared.refusal.Refusal.{Refusal}
 use Rattle.plant.specs.declared.refusal.Part.TheVariants as P
 use Rattle.plant.specs.declared.refusal.Reason.{Reason}
@@ -10,7 +10,7 @@ use Rattle.plant.specs.declared.refusal.Reason.TheVariants.{TreeGrammar}
 use Rattle.drawing.specs.declared.mark.Mark.{Mark}
 use Rattle.drawing.specs.declared.mark.Mark.TheVariants.{Open, Comma, Close, Semicolon, Digit, Letter}
 use Rattle.drawing.specs.declared.text.Text.{Text}
-use Rattle.drawing.specs.Marks.{sign, digit, mark_of, first_mark, Fair, letter_of}
+use Rattle.drawing.specs.Marks.{sign, digit, mark_of, first_mark, Fair}
 use Rattle.drawing.specs.Grammar.{Out, good, bad, lit, letter, stop, digits}
 use Rattle.drawing.specs.Reads.{rest, Sound, Ahead, Peeked, next_digit, Faulted, Reads, capped}
 

@@ -1,21 +1,21 @@
 -- Where a text is refused, and that everything before is in order. Assumes nothing.
-use Rattle.std.proofs.Common.{◌≡◌, ℕ, zero, suc, ◌+◌, ◌-◌, ◌*◌, ◌<◌, ◌≤◌, max, Bool, true, false, cond, not, ◌&&◌, ◌||◌, eqb, ltb, ◌⊎◌, List, [], ◌∷◌, ◌++◌, sym, refl, ap, ◌∙◌, subst, inl, inr, ⊎_elim, append_assoc, append-nil, arith}
+use Rattle.std.proofs.Common.{◌≡◌, ℕ, zero, suc, ◌+◌, ◌-◌, ◌*◌, ◌≤◌, max, Bool, true, false, cond, not, ◌&&◌, eqb, ltb, ◌⊎◌, List, [], ◌∷◌, ◌++◌, sym, refl, ap, ◌∙◌, subst, inl, inr, ⊎_elim, append_assoc, append-nil, arith}
 use Rattle.std.proofs.lemmas.Bool.{eqb-true, and_cases, ltb-true, ltb-false, lt-ltb, le-ltb, cases_lt, not-false, both_ways}
 use Rattle.plant.specs.declared.refusal.Reason.{Reason}
 use Rattle.plant.specs.declared.refusal.Reason.TheVariants.{TreeGrammar, TooDeep, LeafNumber, HalvesApart, NotThePlant}
 use Rattle.plant.specs.declared.tree.Join.{Join}
 use Rattle.plant.specs.declared.tree.Join.TheVariants.{Series, Parallel}
-use Rattle.plant.specs.Trees.{Net, Tree, leaf, series, parallel, uses, Builds, Draws}
+use Rattle.plant.specs.Trees.{Net, Tree, leaf, series, uses}
 use Rattle.plant.specs.Nodes.{joined}
 use Rattle.drawing.specs.declared.mark.Mark.{Mark}
 use Rattle.drawing.specs.declared.mark.Mark.TheVariants.{Comma, Close, Semicolon}
 use Rattle.drawing.specs.Marks.{sign, digit, letter_of}
-use Rattle.drawing.specs.Grammar.{Out, good, bad, then, lit, letter, stop, digits, after_zero, number, Lines, with_lines, meet, leaf_line, join_letter, after_open, head, opened, subtree, pair, complete, none_named, ending, whole}
+use Rattle.drawing.specs.Grammar.{Out, good, bad, then, lit, letter, stop, digits, after_zero, number, Lines, with_lines, meet, leaf_line, join_letter, after_open, subtree, complete, none_named, whole}
 use Rattle.drawing.specs.Written.{spelled, written, deep}
-use Rattle.drawing.specs.Faults.{Grammatical, Around, outside, in_first, in_second, before, standing, most, halves, AllBuilt, total, InOrder, Meets, NoDigit, Reached, at_subtree, past_zero, past_subtree, past_pair, past_semicolon, BracketTooDeep, NumberAtFault, LetterAtFault, NotDrawn}
+use Rattle.drawing.specs.Faults.{Grammatical, Around, outside, in_first, in_second, before, standing, most, halves, total, InOrder, Meets, NoDigit, Reached, at_subtree, past_zero, past_subtree, past_pair, past_semicolon, BracketTooDeep, NumberAtFault, LetterAtFault, NotDrawn}
 use Rattle.drawing.proofs.Bytes.{by_bool}
 use Rattle.drawing.proofs.Spelling.{clash, same_good, is_digit, number_good}
-use Rattle.drawing.proofs.Building.{Ends, Among, Fits, meets_series, meets_parallel, fits_draws, draws_complete}
+use Rattle.drawing.proofs.Building.{Ends, Fits, meets_series, meets_parallel, draws_complete}
 use Rattle.drawing.proofs.Laws.{Said, said, lit_good, letter_good, stop_good}
 use Rattle.drawing.proofs.Writing.{leaf_text}
 

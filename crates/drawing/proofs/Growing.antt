@@ -1,12 +1,11 @@
 -- A sketch grows by a leaf and by a join. Assumes nothing.
-use Rattle.std.proofs.Common.{◌≡◌, ℕ, zero, suc, ◌+◌, ◌-◌, ◌*◌, ◌<◌, ◌≤◌, Bool, true, false, cond, ◌||◌, eqb, ltb, List, [], ◌∷◌, ◌++◌, length, get_or, take, set, replicate, Some, None, Option, sym, refl, ap, ◌∙◌, subst, ⊎_elim, append_assoc, arith}
+use Rattle.std.proofs.Common.{◌≡◌, ℕ, zero, suc, ◌+◌, ◌-◌, ◌<◌, ◌≤◌, Bool, true, false, ◌||◌, List, [], ◌∷◌, ◌++◌, length, get_or, set, replicate, Some, None, Option, sym, refl, ap, ◌∙◌, subst, ⊎_elim, append_assoc, arith}
 use Rattle.std.proofs.lemmas.List.{same_from_push, length_push, length-take-le, length-set, get_or_default, get_or-set_same, get_or-set_other, get_or-replicate, length-replicate, get_or_past}
 use Rattle.std.proofs.lemmas.Bool.{cases_eq, cases_lt, eq-eqb, ne_eqb}
 use Rattle.plant.specs.declared.records.Line.{Line}
 use Rattle.plant.specs.declared.table.Table.{Table}
 use Rattle.plant.specs.declared.stack.Stack.{Stack}
 use Rattle.plant.specs.declared.tree.Join.{Join}
-use Rattle.plant.specs.declared.tree.Shape.{Shape}
 use Rattle.plant.specs.declared.tree.Shape.TheVariants as S
 use Rattle.plant.specs.declared.tree.Node.{Node}
 use Rattle.plant.specs.Records.{no_line}
@@ -15,10 +14,10 @@ use Rattle.plant.specs.Held.{held, room, Whole, Popped}
 use Rattle.plant.specs.Tables.{listed, Sound}
 use Rattle.drawing.specs.declared.half.Half.{Half}
 use Rattle.drawing.specs.declared.sketch.Sketch.{Sketch}
-use Rattle.drawing.specs.Grammar.{Lines, with_lines}
+use Rattle.drawing.specs.Grammar.{with_lines}
 use Rattle.drawing.specs.Halves.{Meet, marks, either, half}
 use Rattle.drawing.specs.Sketches.{net, done, waiting, named_in, tally, Ready, Grown, joint, Built, Blank}
-use Rattle.drawing.proofs.Marking.{tally_more, marks_same}
+use Rattle.drawing.proofs.Marking.{tally_more}
 
 pub popped_some : {T : Type 0} (r : Option T) (x : T) (l m : List T) → r ≡ Some x → Popped r l m → l ≡ m ++ x ∷ []
 popped_some None x l m e p = let z : ◌≡◌ {A = ℕ} 0 1 = cc in absurd (omega arith)

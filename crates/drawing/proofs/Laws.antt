@@ -1,19 +1,19 @@
 -- The grammar reads what is written, and nothing else. Assumes nothing.
-use Rattle.std.proofs.Common.{◌≡◌, ℕ, zero, suc, ◌+◌, ◌-◌, ◌<◌, ◌≤◌, max, Bool, true, false, cond, not, ◌&&◌, ◌||◌, eqb, ltb, ◌⊎◌, List, [], ◌∷◌, ◌++◌, sym, refl, ap, ◌∙◌, subst, inl, inr, ⊎_elim, append_assoc, arith}
-use Rattle.std.proofs.lemmas.Bool.{eqb-true, ne_eqb, eq-eqb, and_parts, and_from, ltb-true, lt-ltb, not-true}
-use Rattle.plant.specs.declared.refusal.Reason.TheVariants.{TreeGrammar, TooDeep, LeafNumber, HalvesApart, NotThePlant}
+use Rattle.std.proofs.Common.{◌≡◌, ℕ, zero, suc, ◌+◌, ◌≤◌, max, Bool, true, false, cond, not, ◌&&◌, eqb, ltb, List, [], ◌∷◌, ◌++◌, sym, refl, ap, ◌∙◌, subst, append_assoc, arith}
+use Rattle.std.proofs.lemmas.Bool.{eqb-true, and_parts, ltb-true, not-true}
+use Rattle.plant.specs.declared.refusal.Reason.TheVariants.{LeafNumber, HalvesApart, NotThePlant}
 use Rattle.plant.specs.declared.tree.Join.{Join}
 use Rattle.plant.specs.declared.tree.Join.TheVariants.{Series, Parallel}
-use Rattle.plant.specs.Trees.{Net, Tree, leaf, series, parallel, uses, Builds, Draws}
+use Rattle.plant.specs.Trees.{Net, Tree, leaf, Draws}
 use Rattle.plant.specs.Nodes.{joined}
 use Rattle.drawing.specs.declared.mark.Mark.{Mark}
 use Rattle.drawing.specs.declared.mark.Mark.TheVariants.{Comma, Close, Semicolon}
-use Rattle.drawing.specs.Marks.{sign, digit, letter_of}
-use Rattle.drawing.specs.Grammar.{Out, good, bad, then, lit, letter, stop, number, Lines, with_lines, meet, leaf_line, join_letter, after_open, head, opened, subtree, pair, complete, none_named, ending, whole}
+use Rattle.drawing.specs.Marks.{sign, letter_of}
+use Rattle.drawing.specs.Grammar.{Out, good, bad, then, lit, letter, stop, number, Lines, with_lines, meet, leaf_line, opened, subtree, complete, none_named, whole}
 use Rattle.drawing.specs.Written.{spelled, written, deep}
 use Rattle.drawing.proofs.Bytes.{by_bool}
 use Rattle.drawing.proofs.Spelling.{clash, same_good, number_good}
-use Rattle.drawing.proofs.Building.{Ends, Among, Fits, leaf_fits, joined_fits, fits_draws}
+use Rattle.drawing.proofs.Building.{Ends, Fits, leaf_fits, joined_fits, fits_draws}
 
 pub record Then {A B : Type 0} (o : Out A) (f : A → List ℕ → Out B) (y : B) (u : List ℕ) : Type 0 where
   pub value : A

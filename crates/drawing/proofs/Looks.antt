@@ -1,15 +1,14 @@
 -- The grammar looks one byte ahead at most: what it reads, and where it refuses, hangs on no byte after that. Assumes nothing.
-use Rattle.std.proofs.Common.{◌≡◌, ℕ, zero, suc, ◌+◌, ◌-◌, ◌*◌, ◌<◌, ◌≤◌, Bool, true, false, cond, not, ◌&&◌, ◌||◌, eqb, ltb, List, [], ◌∷◌, ◌++◌, sym, refl, ap, ◌∙◌, subst, append_assoc, arith}
+use Rattle.std.proofs.Common.{◌≡◌, ℕ, zero, suc, ◌+◌, ◌-◌, ◌*◌, Bool, true, false, cond, not, ◌&&◌, eqb, ltb, List, [], ◌∷◌, ◌++◌, sym, refl, ap, ◌∙◌, append_assoc, arith}
 use Rattle.plant.specs.declared.refusal.Reason.{Reason}
 use Rattle.plant.specs.declared.refusal.Reason.TheVariants.{TreeGrammar, TooDeep, LeafNumber, HalvesApart, NotThePlant}
-use Rattle.plant.specs.declared.tree.Join.{Join}
 use Rattle.plant.specs.declared.tree.Join.TheVariants.{Series, Parallel}
 use Rattle.plant.specs.Trees.{Net, Tree, leaf}
 use Rattle.plant.specs.Nodes.{joined}
 use Rattle.drawing.specs.declared.mark.Mark.{Mark}
 use Rattle.drawing.specs.declared.mark.Mark.TheVariants.{Comma, Close, Semicolon}
 use Rattle.drawing.specs.Marks.{sign, digit}
-use Rattle.drawing.specs.Grammar.{Out, good, bad, then, lit, letter, stop, digits, after_zero, after_first, number, Lines, with_lines, meet, leaf_line, join_letter, after_open, head, opened, subtree, pair, complete, none_named, ending, whole}
+use Rattle.drawing.specs.Grammar.{Out, good, bad, then, lit, letter, stop, digits, after_zero, number, Lines, with_lines, meet, leaf_line, join_letter, after_open, subtree, pair, complete, none_named, whole}
 use Rattle.drawing.proofs.Bytes.{by_bool}
 use Rattle.drawing.proofs.Spelling.{leaf_number, halves_apart, too_deep, not_plant}
 

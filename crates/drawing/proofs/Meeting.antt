@@ -1,12 +1,11 @@
 -- Halves meet where their trees do. Assumes nothing.
-use Rattle.std.proofs.Common.{◌≡◌, ℕ, zero, suc, ◌+◌, ◌-◌, ◌<◌, ◌≤◌, Bool, true, false, cond, not, ◌&&◌, ◌||◌, eqb, ◌⊎◌, List, length, get_or, Decides, sym, refl, ap, ◌∙◌, subst, inl, inr, ⊎_elim, arith}
+use Rattle.std.proofs.Common.{◌≡◌, ℕ, ◌+◌, ◌-◌, ◌<◌, Bool, true, false, not, ◌&&◌, ◌||◌, eqb, length, get_or, Decides, sym, refl, ap, ◌∙◌, inl, inr, ⊎_elim, arith}
 use Rattle.std.proofs.lemmas.Bool.{eqb-true, eq-eqb, and_parts, and_from, or_cases, or_left, or_right}
 use Rattle.std.proofs.lemmas.Bool.Decides.{Decides-below_and}
 use Rattle.plant.specs.declared.tree.Join.{Join}
 use Rattle.plant.specs.declared.tree.Join.TheVariants.{Series, Parallel}
-use Rattle.plant.specs.Trees.{Net, Tree, leaf, series, parallel, left, right, inner, station_of}
+use Rattle.plant.specs.Trees.{Net, Tree, series, parallel, left, right, inner, station_of}
 use Rattle.plant.specs.Nodes.{size, joined}
-use Rattle.drawing.specs.declared.half.Half.{Half}
 use Rattle.drawing.specs.Grammar.{below, share_only, meet}
 use Rattle.drawing.specs.Halves.{ShareOnly, Meet, marks, half}
 use Rattle.drawing.specs.Sketches.{joint}

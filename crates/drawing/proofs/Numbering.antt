@@ -1,12 +1,12 @@
 -- The numbered nodes of a tree are those of that tree and no other. Assumes nothing.
-use Rattle.std.proofs.Common.{◌≡◌, ℕ, zero, suc, ◌+◌, ◌-◌, ◌<◌, ◌≤◌, List, [], ◌∷◌, ◌++◌, length, get_or, sym, refl, ap, ◌∙◌, append_assoc, append-nil, arith}
+use Rattle.std.proofs.Common.{◌≡◌, ℕ, zero, suc, ◌+◌, ◌-◌, ◌≤◌, List, [], ◌∷◌, ◌++◌, length, get_or, sym, refl, ap, ◌∙◌, append_assoc, append-nil, arith}
 use Rattle.std.proofs.lemmas.List.{length-append, get_or_at}
 use Rattle.plant.specs.declared.tree.Join.{Join}
 use Rattle.plant.specs.declared.tree.Join.TheVariants.{Series, Parallel}
 use Rattle.plant.specs.declared.tree.Shape.{Shape}
 use Rattle.plant.specs.declared.tree.Shape.TheVariants as S
 use Rattle.plant.specs.declared.tree.Node.{Node}
-use Rattle.plant.specs.Trees.{Net, Tree, leaf, series, parallel, left, right}
+use Rattle.plant.specs.Trees.{Net, Tree, leaf, series, parallel}
 use Rattle.plant.specs.Nodes.{size, node, numbered, no_node, joined, shaped, tree_at, tree_of}
 
 pub size_pos : (t : Tree) → 1 ≤ size t

@@ -1,22 +1,22 @@
 -- A first fault is where the grammar refuses: the way back from a fault to the verdict. Assumes nothing.
-use Rattle.std.proofs.Common.{◌≡◌, ℕ, zero, suc, ◌+◌, ◌-◌, ◌*◌, ◌<◌, ◌≤◌, max, Bool, true, false, cond, not, ◌&&◌, ◌||◌, eqb, ltb, leb, ◌⊎◌, List, [], ◌∷◌, ◌++◌, sym, refl, ap, ◌∙◌, subst, inl, inr, ⊎_elim, append_assoc, append-nil, arith}
-use Rattle.std.proofs.lemmas.Bool.{eqb-true, ne_eqb, eq-eqb, and_from, and_left, and_right, ltb-true, lt-ltb, le-ltb, cases_lt, cases_eq, not_from_true, both_ways}
+use Rattle.std.proofs.Common.{◌≡◌, ℕ, suc, ◌+◌, ◌-◌, ◌*◌, ◌<◌, ◌≤◌, max, true, false, cond, not, ◌&&◌, ltb, ◌⊎◌, List, [], ◌∷◌, ◌++◌, sym, refl, ap, ◌∙◌, subst, ⊎_elim, append_assoc, append-nil, arith}
+use Rattle.std.proofs.lemmas.Bool.{ne_eqb, and_left, and_right, lt-ltb, le-ltb, cases_lt, cases_eq, not_from_true}
 use Rattle.plant.specs.declared.refusal.Reason.{Reason}
 use Rattle.plant.specs.declared.refusal.Reason.TheVariants.{TreeGrammar, TooDeep, LeafNumber, HalvesApart, NotThePlant}
 use Rattle.plant.specs.declared.tree.Join.{Join}
 use Rattle.plant.specs.declared.tree.Join.TheVariants.{Series, Parallel}
-use Rattle.plant.specs.Trees.{Net, Tree, leaf, series, parallel, uses, Builds, Draws}
+use Rattle.plant.specs.Trees.{Net, Tree, leaf, series, parallel}
 use Rattle.plant.specs.Nodes.{joined}
 use Rattle.drawing.specs.declared.mark.Mark.{Mark}
 use Rattle.drawing.specs.declared.mark.Mark.TheVariants.{Comma, Close, Semicolon}
 use Rattle.drawing.specs.Marks.{sign, digit, letter_of}
-use Rattle.drawing.specs.Grammar.{Out, good, bad, then, lit, letter, stop, digits, after_zero, after_first, number, Lines, with_lines, meet, leaf_line, join_letter, after_open, head, opened, subtree, pair, complete, none_named, ending, whole}
+use Rattle.drawing.specs.Grammar.{good, bad, then, lit, letter, stop, Lines, with_lines, meet, join_letter, subtree, complete, none_named, ending, whole}
 use Rattle.drawing.specs.Written.{spelled, written, deep}
-use Rattle.drawing.specs.Faults.{Grammatical, Around, outside, in_first, in_second, before, standing, most, halves, AllBuilt, total, InOrder, Meets, NoDigit, Reached, at_subtree, past_zero, past_subtree, past_pair, past_semicolon, OutsideGrammar, BracketTooDeep, NumberAtFault, LetterAtFault, NotDrawn}
+use Rattle.drawing.specs.Faults.{Around, outside, in_first, in_second, before, standing, most, halves, total, InOrder, Meets, NoDigit, at_subtree, past_zero, past_subtree, past_pair, past_semicolon, OutsideGrammar, BracketTooDeep, NumberAtFault, LetterAtFault, NotDrawn}
 use Rattle.drawing.proofs.Bytes.{by_bool}
-use Rattle.drawing.proofs.Spelling.{IsDigit, is_digit, digit_is, one_digit, spelled_more}
+use Rattle.drawing.proofs.Spelling.{is_digit, one_digit, spelled_more}
 use Rattle.drawing.proofs.Building.{Ends, Among, Fits, series_meets, parallel_meets, fits_draws}
-use Rattle.drawing.proofs.Writing.{joined_text, leaf_text, subtree_leaf, subtree_joined, join_reads, reads, ending_reads}
+use Rattle.drawing.proofs.Writing.{joined_text, leaf_text, subtree_leaf, join_reads, reads, ending_reads}
 use Rattle.drawing.proofs.Finding.{closing, fill, fill_text, more_lines}
 
 -- the lines named before a place

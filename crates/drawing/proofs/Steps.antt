@@ -1,27 +1,27 @@
 -- The reader's steps. Assumes nothing.
-use Rattle.std.proofs.Common.{◌≡◌, ℕ, zero, suc, ◌+◌, ◌-◌, ◌<◌, ◌≤◌, min, Bool, true, false, cond, not, ◌&&◌, ◌||◌, eqb, ltb, ◌⊎◌, List, [], ◌∷◌, ◌++◌, length, get_or, drop, Ok, Err, Result, sym, refl, ap, ◌∙◌, subst, inl, inr, ⊎_elim, append_assoc, arith}
+use Rattle.std.proofs.Common.{◌≡◌, ℕ, zero, suc, ◌+◌, ◌-◌, ◌≤◌, min, Bool, true, false, cond, not, ◌&&◌, ◌||◌, ltb, List, [], ◌∷◌, ◌++◌, length, get_or, drop, Ok, Err, Result, sym, refl, ap, ◌∙◌, subst, ⊎_elim, append_assoc, arith}
 use Rattle.std.proofs.lemmas.List.{length_push}
-use Rattle.std.proofs.lemmas.Bool.{cases_lt, lt-ltb, le-ltb, ltb-true, ltb-false, cond-true, cond-false, and_parts}
+use Rattle.std.proofs.lemmas.Bool.{cases_lt, lt-ltb, le-ltb, ltb-true, and_parts}
 use Rattle.plant.specs.declared.refusal.Refusal.{Refusal}
-use Rattle.plant.specs.declared.refusal.Reason.TheVariants.{TreeGrammar, TooDeep, LeafNumber, HalvesApart, NotThePlant}
+use Rattle.plant.specs.declared.refusal.Reason.TheVariants.{LeafNumber, HalvesApart}
 use Rattle.plant.specs.declared.refusal.Part.TheVariants as P
 use Rattle.plant.specs.declared.tree.Join.{Join}
 use Rattle.plant.specs.declared.tree.Join.TheVariants.{Series, Parallel}
 use Rattle.plant.specs.declared.tree.Shape.TheVariants as S
 use Rattle.plant.specs.declared.tree.Node.{Node}
-use Rattle.plant.specs.Trees.{Net, net_of, Tree, leaf, series, parallel, left, right, uses}
+use Rattle.plant.specs.Trees.{Net, net_of, Tree, leaf, uses}
 use Rattle.plant.specs.Nodes.{size, numbered, node, joined}
 use Rattle.plant.specs.Held.{room}
 use Rattle.plant.specs.Tables.{listed}
-use Rattle.drawing.specs.declared.mark.Mark.TheVariants.{Open, Comma, Close, Semicolon}
+use Rattle.drawing.specs.declared.mark.Mark.TheVariants.{Comma, Close}
 use Rattle.drawing.specs.declared.half.Half.{Half}
 use Rattle.drawing.specs.declared.text.Text.{Text}
 use Rattle.drawing.specs.declared.sketch.Sketch.{Sketch}
 use Rattle.drawing.specs.declared.reader.Reader.{Reader}
-use Rattle.drawing.specs.Grammar.{Out, good, bad, then, lit, letter, number, Lines, with_lines, meet, leaf_line, join_letter, subtree, pair, opened}
-use Rattle.drawing.specs.Reads.{rest, Sound, Faulted, Reads, capped}
+use Rattle.drawing.specs.Grammar.{Out, good, bad, then, lit, letter, number, Lines, with_lines, meet, leaf_line, join_letter, subtree, pair}
+use Rattle.drawing.specs.Reads.{rest, Sound, Reads, capped}
 use Rattle.drawing.specs.Halves.{Meet, half}
-use Rattle.drawing.specs.Sketches.{net, done, waiting, named_in, tally, Ready, Grown, joint, Joined, Built}
+use Rattle.drawing.specs.Sketches.{net, done, waiting, named_in, tally, Ready, Joined, Built}
 use Rattle.drawing.specs.Readings.{IsTree, ReadsTree}
 use Rattle.drawing.proofs.Bytes.{faulted}
 use Rattle.drawing.proofs.Meeting.{meet_true, meet_false, joint_half, joined_ends, joined_size}

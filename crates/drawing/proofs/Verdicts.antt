@@ -1,5 +1,5 @@
 -- The reader's answer is the verdict. Assumes nothing.
-use Rattle.std.proofs.Common.{◌≡◌, ℕ, ◌-◌, ◌≤◌, List, [], ◌∷◌, ◌++◌, length, take, drop, Ok, Err, Result, sym, refl, ap, ◌∙◌, subst, append-nil, arith}
+use Rattle.std.proofs.Common.{◌≡◌, ℕ, ◌-◌, ◌≤◌, List, [], ◌∷◌, ◌++◌, length, take, drop, sym, refl, ap, ◌∙◌, subst, append-nil, arith}
 use Rattle.std.proofs.lemmas.List.{length-append, length-drop, take_at, drop_at, take-append-drop, append_cancel_right}
 use Rattle.plant.specs.declared.records.Line.{Line}
 use Rattle.plant.specs.declared.refusal.Refusal.{Refusal}
@@ -13,16 +13,16 @@ use Rattle.plant.specs.Tables.{listed, Sound}
 use Rattle.drawing.specs.Grammar.{Out, good, bad, whole}
 use Rattle.drawing.specs.Reads.{Faulted}
 use Rattle.drawing.specs.Written.{written}
-use Rattle.drawing.specs.Verdict.{Verdict, accepted, refused, settled, verdict, Joins, Writes, Accepted, Refused, Answers, AcceptedWhenWritten, RefusedAtFirstFault}
+use Rattle.drawing.specs.Verdict.{Verdict, accepted, refused, settled, verdict, Joins, Writes, Accepted, Refused, AcceptedWhenWritten, RefusedAtFirstFault}
 use Rattle.drawing.specs.Faults.{Grammatical, Reached, OutsideGrammar, Fault, FirstFault}
 use Rattle.drawing.proofs.Numbering.{tree_of_numbered}
 use Rattle.drawing.proofs.Spelling.{clash}
 use Rattle.drawing.proofs.Building.{Ends}
 use Rattle.drawing.proofs.Standing.{bracket_stands, number_stands, letter_stands, plant_stands, grammar_stands}
-use Rattle.drawing.proofs.Laws.{DrawnBy, whole_said}
-use Rattle.drawing.proofs.Writing.{Sorted, tree, other, whole_reads, whole_sorted}
-use Rattle.drawing.proofs.Looks.{rest_of, swap, Plain, At, Look, whole_looks}
-use Rattle.drawing.proofs.Finding.{Found, by_grammar, by_bracket, by_number, by_letter, by_plant, Place, whole_found}
+use Rattle.drawing.proofs.Laws.{whole_said}
+use Rattle.drawing.proofs.Writing.{tree, other, whole_reads, whole_sorted}
+use Rattle.drawing.proofs.Looks.{rest_of, swap, Plain, whole_looks}
+use Rattle.drawing.proofs.Finding.{Found, by_grammar, by_bracket, by_number, by_letter, by_plant, whole_found}
 
 -- the nodes of a tree that draws the plant
 numbered_drawn : (n : ℕ) (ls : List Line) (ns : List Node) (t : Tree) → ns ≡ numbered (net_of ls) 0 t → Draws (net_of ls) n (length ls) t → Drawn n ls ns

@@ -1,12 +1,11 @@
 -- A whole text, read from a blank sketch. Assumes nothing.
-use Rattle.std.proofs.Common.{◌≡◌, ℕ, ◌+◌, ◌<◌, ◌≤◌, Bool, true, false, cond, ◌&&◌, ◌||◌, eqb, ltb, List, [], ◌∷◌, ◌++◌, length, get_or, take, drop, Ok, Err, Decides, Result, sym, refl, ap, ◌∙◌, subst, ⊎_elim, arith}
+use Rattle.std.proofs.Common.{◌≡◌, ℕ, ◌<◌, ◌≤◌, Bool, true, false, cond, ◌||◌, eqb, ltb, List, [], ◌∷◌, ◌++◌, length, take, drop, Ok, Err, Decides, sym, ap, ◌∙◌, subst, ⊎_elim, arith}
 use Rattle.std.proofs.lemmas.Bool.Decides.{same_from_decides}
 use Rattle.std.proofs.lemmas.Bool.{eqb-true, eq-eqb, and_parts, and_from, or_cases, or_left, false≢true}
 use Rattle.plant.specs.declared.refusal.Refusal.{Refusal}
-use Rattle.plant.specs.declared.refusal.Reason.{Reason}
 use Rattle.plant.specs.declared.refusal.Reason.TheVariants.{NotThePlant}
 use Rattle.plant.specs.declared.refusal.Part.TheVariants as P
-use Rattle.plant.specs.Trees.{Net, net_of, Tree, left, right, station_of, uses}
+use Rattle.plant.specs.Trees.{Net, Tree, left, station_of, uses}
 use Rattle.plant.specs.Nodes.{numbered}
 use Rattle.plant.specs.Tables as tables
 use Rattle.drawing.specs.declared.mark.Mark.TheVariants.{Semicolon}
@@ -15,9 +14,9 @@ use Rattle.drawing.specs.declared.text.Text.{Text}
 use Rattle.drawing.specs.declared.sketch.Sketch.{Sketch}
 use Rattle.drawing.specs.declared.reader.Reader.{Reader}
 use Rattle.drawing.specs.Grammar.{Out, good, bad, then, lit, stop, Lines, with_lines, below, complete, none_named, subtree, ending, whole}
-use Rattle.drawing.specs.Reads.{rest, Sound, Faulted, Reads}
-use Rattle.drawing.specs.Halves.{half, marks, Spans}
-use Rattle.drawing.specs.Sketches.{net, done, waiting, named_in, Ready, Built, Complete, Blank}
+use Rattle.drawing.specs.Reads.{rest, Faulted, Reads}
+use Rattle.drawing.specs.Halves.{half}
+use Rattle.drawing.specs.Sketches.{net, done, waiting, named_in, Built, Complete, Blank}
 use Rattle.drawing.specs.Readings.{ReadsTree, ReadsWhole}
 use Rattle.drawing.proofs.Bytes.{faulted}
 use Rattle.drawing.proofs.Marking.{get_or-marks}

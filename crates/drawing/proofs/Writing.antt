@@ -1,19 +1,18 @@
 -- What is written is read. Assumes nothing.
-use Rattle.std.proofs.Common.{◌≡◌, ℕ, zero, suc, ◌+◌, ◌-◌, ◌<◌, ◌≤◌, max, Bool, true, false, cond, not, ◌&&◌, ◌||◌, eqb, ltb, ◌⊎◌, List, [], ◌∷◌, ◌++◌, sym, refl, ap, ◌∙◌, subst, inl, inr, ⊎_elim, append_assoc, arith}
-use Rattle.std.proofs.lemmas.Bool.{ne_eqb, eq-eqb, and_from, lt-ltb, le-ltb, or_from, cases_lt, not_from_false}
+use Rattle.std.proofs.Common.{◌≡◌, ℕ, zero, suc, ◌+◌, ◌≤◌, max, Bool, true, false, cond, not, ◌&&◌, ltb, List, [], ◌∷◌, ◌++◌, sym, refl, ap, ◌∙◌, subst, ⊎_elim, append_assoc, arith}
+use Rattle.std.proofs.lemmas.Bool.{ne_eqb, and_from, lt-ltb, le-ltb, or_from, cases_lt, not_from_false}
 use Rattle.plant.specs.declared.refusal.Reason.{Reason}
 use Rattle.plant.specs.declared.refusal.Reason.TheVariants.{TreeGrammar, TooDeep, LeafNumber, HalvesApart, NotThePlant}
 use Rattle.plant.specs.declared.tree.Join.{Join}
 use Rattle.plant.specs.declared.tree.Join.TheVariants.{Series, Parallel}
 use Rattle.plant.specs.Trees.{Net, Tree, leaf, series, parallel, uses, Builds, Draws}
 use Rattle.plant.specs.Nodes.{joined}
-use Rattle.drawing.specs.Marks.{sign, digit, letter_of}
-use Rattle.drawing.specs.Grammar.{Out, good, bad, then, lit, letter, stop, number, Lines, with_lines, meet, leaf_line, join_letter, after_open, head, opened, subtree, pair, complete, none_named, ending, whole}
+use Rattle.drawing.specs.Marks.{letter_of}
+use Rattle.drawing.specs.Grammar.{Out, good, bad, then, letter, stop, Lines, with_lines, meet, leaf_line, subtree, complete, none_named, ending, whole}
 use Rattle.drawing.specs.Written.{spelled, written, deep}
 use Rattle.drawing.specs.Faults.{NoDigit}
-use Rattle.drawing.proofs.Bytes.{by_bool}
-use Rattle.drawing.proofs.Spelling.{too_deep, leaf_number, halves_apart, not_plant, number_reads, Begins, begins}
-use Rattle.drawing.proofs.Building.{Ends, Among, Fits, uses_self, uses_joined, meets_series, meets_parallel, draws_complete}
+use Rattle.drawing.proofs.Spelling.{too_deep, leaf_number, halves_apart, not_plant, number_reads, begins}
+use Rattle.drawing.proofs.Building.{Fits, uses_self, uses_joined, meets_series, meets_parallel, draws_complete}
 
 letter_reads : (j : Join) (s : List ℕ) → letter (letter_of j ∷ s) ≡ good j s
 letter_reads Series s = refl

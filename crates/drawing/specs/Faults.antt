@@ -1,11 +1,11 @@
 -- What a refusal of a tree's text says: the first fault, and that everything before it is in order. Assumes nothing.
-use Rattle.std.specs.Prelude.{◌≡◌, ℕ, ◌+◌, ◌<◌, ◌≤◌, max, true, false, ◌⊎◌, List, [], ◌∷◌, ◌++◌, length, take, drop, ◌≢◌}
+use Rattle.std.specs.Prelude.{◌≡◌, ℕ, ◌+◌, ◌≤◌, max, true, false, ◌⊎◌, List, [], ◌∷◌, ◌++◌, length, take, drop, ◌≢◌}
 use Rattle.plant.specs.declared.records.Line.{Line}
 use Rattle.plant.specs.declared.refusal.Reason.{Reason}
 use Rattle.plant.specs.declared.refusal.Reason.TheVariants.{TextTooLong, MemoryTooShort, TableGrammar, FieldCount, FieldForm, RowNumber, RowCount, LineEnds, TreeGrammar, TooDeep, LeafNumber, HalvesApart, NotThePlant, Blank, NoSuchRecord, OutOfRange, NothingFits, NotOpen}
 use Rattle.plant.specs.declared.tree.Join.{Join}
 use Rattle.plant.specs.declared.tree.Join.TheVariants.{Series, Parallel}
-use Rattle.plant.specs.Trees.{Net, net_of, Tree, leaf, series, parallel, uses, InSeries, InParallel, Builds, Draws}
+use Rattle.plant.specs.Trees.{Net, net_of, Tree, uses, InSeries, InParallel, Builds, Draws}
 use Rattle.drawing.specs.Marks.{digit, letter_of}
 use Rattle.drawing.specs.Written.{spelled, written, deep}
 

@@ -1,5 +1,5 @@
 -- What a tree's text says, read from its first byte on. Assumes nothing.
-use Rattle.std.specs.Prelude.{◌≡◌, ℕ, zero, suc, ◌+◌, ◌-◌, ◌*◌, ◌<◌, ◌≤◌, min, Bool, true, false, cond, not, ◌&&◌, ◌||◌, ltb, List, [], ◌∷◌, ◌++◌, Some, None, Option, ◌==◌, nat_lt}
+use Rattle.std.specs.Prelude.{ℕ, zero, suc, ◌+◌, ◌-◌, ◌*◌, Bool, true, false, cond, not, ◌&&◌, ◌||◌, ltb, List, [], ◌∷◌, ◌==◌, nat_lt}
 use Rattle.plant.specs.declared.tree.Join.{Join}
 use Rattle.plant.specs.declared.tree.Join.TheVariants.{Series, Parallel}
 use Rattle.plant.specs.declared.refusal.Reason.{Reason}
@@ -8,7 +8,7 @@ use Rattle.plant.specs.Trees.{Net, Tree, leaf, left, right, station_of, uses}
 use Rattle.plant.specs.Nodes.{joined}
 use Rattle.plant.specs.Records.{max_stations}
 use Rattle.drawing.specs.declared.mark.Mark.{Mark}
-use Rattle.drawing.specs.declared.mark.Mark.TheVariants.{Open, Comma, Close, Semicolon, Digit, Letter}
+use Rattle.drawing.specs.declared.mark.Mark.TheVariants.{Comma, Close, Semicolon}
 use Rattle.drawing.specs.Marks.{sign, digit}
 
 -- what a reading gives: a value and what is left, or a reason to refuse and what is left from the place of the fault on

@@ -1,11 +1,8 @@
 -- What a sketch holds while its text is read. Assumes nothing.
-use Rattle.std.specs.Prelude.{◌≡◌, ℕ, ◌+◌, ◌-◌, ◌*◌, ◌<◌, ◌≤◌, Bool, true, false, ◌||◌, List, [], ◌∷◌, ◌++◌, length, count_by, slice_index_or}
-use Rattle.plant.specs.declared.records.Line.{Line}
+use Rattle.std.specs.Prelude.{◌≡◌, ℕ, ◌+◌, ◌*◌, ◌≤◌, Bool, true, false, ◌||◌, List, [], ◌∷◌, ◌++◌, length, count_by, slice_index_or}
 use Rattle.plant.specs.declared.tree.Join.{Join}
 use Rattle.plant.specs.declared.tree.Shape.{Shape}
 use Rattle.plant.specs.declared.tree.Shape.TheVariants as S
-use Rattle.plant.specs.declared.tree.Node.{Node}
-use Rattle.plant.specs.Records.{line}
 use Rattle.plant.specs.Trees.{Net, net_of, Tree}
 use Rattle.plant.specs.Nodes.{size, numbered}
 use Rattle.plant.specs.Held.{held, room, Whole}

@@ -1,5 +1,5 @@
 -- How a tree is written. Assumes nothing.
-use Rattle.std.specs.Prelude.{◌≡◌, ℕ, ◌+◌, ◌≤◌, max, cond, List, [], ◌∷◌, ◌++◌, map, ◌==◌}
+use Rattle.std.specs.Prelude.{ℕ, ◌+◌, max, cond, List, [], ◌∷◌, ◌++◌, map, ◌==◌}
 use Rattle.std.specs.Int.Digits.{digits_of}
 use Rattle.plant.specs.Trees.{Tree, leaf, series, parallel}
 

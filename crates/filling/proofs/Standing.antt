@@ -7,7 +7,7 @@ use Rattle.plant.specs.declared.tree.Join.TheVariants.{Series, Parallel}
 use Rattle.plant.specs.declared.tree.Shape.TheVariants as S
 use Rattle.plant.specs.declared.tree.Node.{Node}
 use Rattle.plant.specs.declared.site.Plant.{Plant}
-use Rattle.plant.specs.Nodes.{size, node, numbered, no_node, joined}
+use Rattle.plant.specs.Nodes.{size, numbered, no_node, joined}
 use Rattle.plant.specs.Trees.{Tree, leaf, left, right, inner, Builds}
 use Rattle.yardsticks.specs.Laws.{Laws, limit, record_limit}
 use Rattle.cells.specs.Inside.{Site, Modest, records, line_of}

@@ -3,7 +3,6 @@ use Rattle.std.specs.Prelude.{◌≡◌, ℕ, ◌+◌, ◌*◌, ◌<◌, ◌≤�
 use Rattle.plant.specs.declared.records.Station.{Station}
 use Rattle.plant.specs.declared.records.Line.{Line}
 use Rattle.plant.specs.declared.tree.Join.{Join}
-use Rattle.plant.specs.declared.tree.Shape.TheVariants as S
 use Rattle.plant.specs.declared.site.Plant.{Plant}
 use Rattle.plant.specs.Nodes.{IsPlant, tree_of, no_node, joined}
 use Rattle.plant.specs.Records.{max_hours}

@@ -1,13 +1,12 @@
 -- From what the solver answers on a lent plant to what a solve answers on the ledger.
-use Rattle.std.proofs.Common.{◌≡◌, ℕ, ◌+◌, ◌<◌, ◌≤◌, Bool, true, false, cond, ◌⊎◌, List, length, ℤ, Ok, Err, Option, Result, sym, refl, ap, ◌∙◌, subst, inl, inr, ⊎_elim, arith}
+use Rattle.std.proofs.Common.{◌≡◌, ℕ, ◌+◌, ◌<◌, ◌≤◌, Bool, true, false, cond, ◌⊎◌, List, length, ℤ, Option, sym, ap, ◌∙◌, subst, inl, inr, arith}
 use mathlib.Core.Path.{transport}
 use Rattle.plant.specs.declared.records.Line.{Line}
 use Rattle.plant.specs.declared.records.Station.{Station}
 use Rattle.plant.specs.declared.refusal.Refusal.{Refusal}
 use Rattle.plant.specs.declared.selection.Selection.{Selection as Marks}
 use Rattle.plant.specs.declared.site.Plant.{Plant}
-use Rattle.plant.specs.declared.tree.Node.{Node}
-use Rattle.plant.specs.Nodes.{IsPlant, numbered, tree_of, size}
+use Rattle.plant.specs.Nodes.{IsPlant, tree_of, size}
 use Rattle.plant.specs.Selections.{among, hours, gain}
 use Rattle.plant.specs.Tables.{listed}
 use Rattle.plant.specs.Trees.{Tree, net_of}
@@ -21,10 +20,10 @@ use Rattle.cells.specs.Best.{Best}
 use Rattle.plant.specs.Selections.{Fits}
 use Rattle.drawing.proofs.Numbering.{length-numbered}
 use Rattle.filling.specs.Sites.{tree}
-use Rattle.solver.specs.Solutions.{Solution, Tables, TooShort, Hopeless, Chosen, needs}
+use Rattle.solver.specs.Solutions.{Tables, TooShort, Hopeless, Chosen, needs}
 use Rattle.plan.specs.declared.Plan.{Plan}
-use Rattle.plan.specs.Ledger.{Books, Ledger, blank, filled, books, view}
-use Rattle.plan.specs.Solves.{need, Right, Picked, Refused, Unsolved, Tabled, Left}
+use Rattle.plan.specs.Ledger.{Ledger, blank, filled, books, view}
+use Rattle.plan.specs.Solves.{need, Picked, Refused, Unsolved, Tabled, Left}
 
 -- the plant that a filled plan lends
 pub record Lent (p : Plan) (q : Plant) : Type 0 where

@@ -1,20 +1,20 @@
 -- What the set calls need to show of plans and ledgers.
-use Rattle.std.proofs.Common.{◌≡◌, ℕ, ◌+◌, ◌<◌, ◌≤◌, Bool, true, false, cond, eqb, ltb, leb, List, length, get_or, take, set, ℤ, nat_abs, Some, None, Ok, Err, Option, sym, refl, ap, ◌∙◌, subst, arith}
-use mathlib.Core.Logic.{∥∥₁_elim, ∥∥₁_map}
+use Rattle.std.proofs.Common.{◌≡◌, ℕ, ◌<◌, ◌≤◌, Bool, true, false, cond, eqb, leb, List, length, get_or, take, set, ℤ, nat_abs, Some, Ok, Err, sym, refl, ap, ◌∙◌, subst, arith}
+use mathlib.Core.Logic.{∥∥₁_map}
 use Rattle.std.proofs.lemmas.List.{length-take-le, get_or-take}
-use Rattle.std.proofs.lemmas.Bool.{lt-leb, le-ltb, leb-true, cond-true, cond-false, true≢false}
+use Rattle.std.proofs.lemmas.Bool.{lt-leb, le-ltb, cond-false, true≢false}
 use Rattle.plant.specs.declared.records.Hold.{Hold}
 use Rattle.plant.specs.declared.records.Line.{Line}
 use Rattle.plant.specs.declared.records.Station.{Station}
 use Rattle.plant.specs.declared.tree.Node.{Node}
 use Rattle.plant.specs.Nodes.{IsPlant, tree_of}
-use Rattle.plant.specs.Records.{StationInRange, LineInRange, no_station, no_line, station, line}
+use Rattle.plant.specs.Records.{StationInRange, no_station, no_line, station, line}
 use Rattle.plant.specs.Tables.{listed}
 use Rattle.texts.specs.Verdict.{verdict}
 use Rattle.texts.specs.Verdict as Texts
 use Rattle.plant.specs.declared.refusal.Refusal.{Refusal}
 use Rattle.plan.specs.declared.Plan.{Plan}
-use Rattle.plan.specs.Ledger.{Books, Ledger, blank, filled, books, view, Setting, hours_set, station_set, line_set, hold_set, fill_call, set_call, hold_of, put_station, put_line, held, set_by, replied, changed, told, replaced, set_reply, set_after, Step}
+use Rattle.plan.specs.Ledger.{Books, blank, filled, books, view, Setting, station_set, line_set, hold_set, fill_call, set_call, hold_of, put_station, put_line, held, set_by, replied, changed, told, replaced, set_reply, set_after, Step}
 use Rattle.plan.specs.Replies.{in_gain}
 use Rattle.plant.proofs.Kept.{take-set, plant_set_station, plant_set_line}
 

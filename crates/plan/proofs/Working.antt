@@ -1,7 +1,7 @@
 -- What a filled plan offers to solve and to tick.
-use Rattle.std.proofs.Common.{◌≡◌, ℕ, ◌+◌, ◌<◌, ◌≤◌, Bool, true, false, not, ◌&&◌, List, length, get_or, set, replicate, sym, refl, ap, ◌∙◌, subst, ⊎_elim, arith}
-use Rattle.std.proofs.lemmas.List.{get_or-replicate, get_or_past, length-replicate, get_or-set_same, get_or-set_other}
-use Rattle.std.proofs.lemmas.Bool.{cases_lt, cases_eq, cases_Bool, and_parts, false≢true}
+use Rattle.std.proofs.Common.{◌≡◌, ℕ, ◌+◌, ◌<◌, ◌≤◌, true, false, not, ◌&&◌, List, length, get_or, set, replicate, sym, ap, ◌∙◌, subst, ⊎_elim, arith}
+use Rattle.std.proofs.lemmas.List.{get_or-replicate, get_or_past, length-replicate, get_or-set_other}
+use Rattle.std.proofs.lemmas.Bool.{cases_lt, cases_eq}
 use Rattle.plant.specs.declared.records.Station.{Station}
 use Rattle.plant.specs.declared.selection.Selection.{Selection}
 use Rattle.plant.specs.Nodes.{IsPlant}
@@ -10,9 +10,6 @@ use Rattle.plant.specs.Tables.{listed}
 use Rattle.plant.proofs.Props.{plant_out}
 use Rattle.plant.proofs.Sums.{hours_split}
 use Rattle.plan.specs.declared.Plan.{Plan}
-use Rattle.plan.specs.declared.pick.Issue.{Issue}
-use Rattle.plan.specs.declared.pick.Progress.{Progress}
-use Rattle.plan.specs.Issues.{stations, still_open, Adds}
 
 pub plan_plant : (p : Plan) → p.filled ≡ true → IsPlant (listed p.stations) (listed p.lines) (listed p.nodes)
 plan_plant p e = plant_out p.filled _ _ _ p.plant e

@@ -1,12 +1,10 @@
 -- What solving, issuing, ticking and ending answer. Assumes nothing.
-use Rattle.std.specs.Prelude.{◌≡◌, ℕ, ◌+◌, ◌<◌, ◌≤◌, Bool, true, false, cond, not, ◌&&◌, List, ◌++◌, length, drop, replicate, Ok, Err, Result, slice_set}
+use Rattle.std.specs.Prelude.{◌≡◌, ℕ, ◌+◌, ◌<◌, ◌≤◌, Bool, true, false, not, ◌&&◌, List, ◌++◌, length, drop, replicate, Ok, Err, Result, slice_set}
 use Rattle.plant.specs.declared.records.Station.{Station}
 use Rattle.plant.specs.declared.refusal.Reason.TheVariants as R
 use Rattle.plant.specs.declared.refusal.Refusal.{Refusal}
-use Rattle.plant.specs.declared.selection.Selection.{Selection}
 use Rattle.plant.specs.Selections.{among, hours}
 use Rattle.plant.specs.Tables.{listed}
-use Rattle.plan.specs.declared.Plan.{Plan}
 use Rattle.plan.specs.declared.pick.Pick.{Pick}
 use Rattle.plan.specs.declared.pick.Issue.{Issue}
 use Rattle.plan.specs.declared.pick.Progress.{Progress}

@@ -1,5 +1,5 @@
 -- How a call is refused. Assumes nothing.
-use Rattle.std.specs.Prelude.{ℕ, Bool, ℤ, Ok, Err, Result, nat_le, unsigned_abs}
+use Rattle.std.specs.Prelude.{ℕ, Bool, ℤ, Err, Result, nat_le, unsigned_abs}
 use Rattle.plant.specs.declared.refusal.Reason.{Reason}
 use Rattle.plant.specs.declared.refusal.Part.TheVariants as P
 use Rattle.plant.specs.declared.refusal.Refusal.{Refusal}

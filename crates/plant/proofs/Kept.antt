@@ -1,12 +1,12 @@
 -- A plant stays a plant where one record changes within its range, and lines stay where they run.
-use Rattle.std.proofs.Common.{◌≡◌, ℕ, zero, suc, ◌+◌, ◌<◌, ◌≤◌, List, [], ◌∷◌, length, get_or, take, set, sym, refl, ap, ◌∙◌, subst, ⊎_elim, arith}
+use Rattle.std.proofs.Common.{◌≡◌, ℕ, zero, suc, ◌<◌, List, [], ◌∷◌, length, get_or, take, set, sym, refl, ap, ◌∙◌, subst, ⊎_elim, arith}
 use Rattle.std.proofs.lemmas.List.{length-set, get_or-set_same, get_or-set_other, set_past}
 use Rattle.std.proofs.lemmas.Bool.{cases_eq, cases_lt}
 use Rattle.plant.specs.declared.records.Line.{Line}
 use Rattle.plant.specs.declared.records.Station.{Station}
 use Rattle.plant.specs.declared.tree.Node.{Node}
 use Rattle.plant.specs.Nodes.{numbered, tree_of, Drawn, IsPlant}
-use Rattle.plant.specs.Records.{StationInRange, LineInRange, no_station, no_line, station, line}
+use Rattle.plant.specs.Records.{StationInRange, LineInRange, no_station, no_line, line}
 use Rattle.plant.specs.Trees.{Net, net_of, Draws}
 
 -- what is taken of a list that is written is written of what is taken

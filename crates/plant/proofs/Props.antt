@@ -1,5 +1,5 @@
 -- That records, a tree and its nodes are a plant is a proposition: there is at most one proof of it.
-use Rattle.std.proofs.Common.{◌≡◌, ℕ, ◌<◌, ◌≤◌, Bool, true, List}
+use Rattle.std.proofs.Common.{◌≡◌, ℕ, Bool, true, List}
 use mathlib.Core.Bool.{Bool-set}
 use mathlib.Core.HLevel.{Π_prop, ¬_prop, ×_prop, ×₃_prop}
 use mathlib.Core.List.{is_set}

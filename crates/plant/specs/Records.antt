@@ -1,5 +1,5 @@
 -- The ranges of a plant's records, and what a hold allows. Assumes nothing.
-use Rattle.std.specs.Prelude.{◌≡◌, ℕ, ◌<◌, ◌≤◌, Bool, true, false, not, List, length, ℤ, pos, ◌≢◌, slice_index_or, unsigned_abs}
+use Rattle.std.specs.Prelude.{ℕ, ◌<◌, ◌≤◌, Bool, true, false, not, List, length, pos, ◌≢◌, slice_index_or, unsigned_abs}
 use Rattle.plant.specs.declared.records.Hold.{Hold}
 use Rattle.plant.specs.declared.records.Hold.TheVariants.{Free, Open, Shut}
 use Rattle.plant.specs.declared.records.Station.{Station}

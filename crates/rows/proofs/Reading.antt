@@ -1,5 +1,5 @@
 -- A table half read.
-use Rattle.std.proofs.Common.{◌≡◌, ℕ, ◌+◌, ◌-◌, ◌<◌, ◌≤◌, Bool, true, false, cond, ltb, List, [], ◌∷◌, ◌++◌, length, take, drop, set, Ok, Err, Result, sym, refl, ap, ◌∙◌, subst, arith, Bor, lt-ltb}
+use Rattle.std.proofs.Common.{◌≡◌, ℕ, ◌+◌, ◌-◌, ◌<◌, ◌≤◌, Bool, true, cond, ltb, List, [], ◌∷◌, ◌++◌, length, drop, Ok, Err, Result, sym, ap, ◌∙◌, arith, Bor, lt-ltb}
 use Rattle.std.proofs.lemmas.List.{length-drop, length-take-le}
 use Rattle.plant.specs.declared.refusal.Reason.{Reason}
 use Rattle.plant.specs.declared.refusal.Reason.TheVariants as R
@@ -9,10 +9,10 @@ use Rattle.plant.specs.declared.table.Table.{Table}
 use Rattle.plant.specs.Tables as T
 use Rattle.tables.specs.declared.grammar.Records.{Records}
 use Rattle.tables.specs.declared.grammar.Fields.{Fields}
-use Rattle.tables.specs.Reads.{rest, Sound, Room, held, Begins}
-use Rattle.tables.specs.Machine.{Told, done, stuck, row, again, whole}
+use Rattle.tables.specs.Reads.{rest, Sound, held, Begins}
+use Rattle.tables.specs.Machine.{again, whole}
 use Rattle.tables.proofs.Complete.{follow, whole_run, again_run, shorter}
-use Rattle.rows.specs.Verdict.{Rules, Lawful, Verdict, table, refused, verdict, first, after, judged, NextRecord}
+use Rattle.rows.specs.Verdict.{Rules, Lawful, refused, verdict, first, after, judged, NextRecord}
 
 -- the place from what is left
 place : (src : List ℕ) (text : Records) → text.src.now ≡ src → Sound text → length src - length (rest text) ≡ text.pos

@@ -1,18 +1,17 @@
 -- What is written is read. Assumes nothing.
-use Rattle.std.proofs.Common.{◌≡◌, ℕ, zero, suc, ◌+◌, ◌-◌, ◌<◌, ◌≤◌, Bool, true, false, cond, ◌&&◌, eqb, ltb, leb, ◌⊎◌, List, [], ◌∷◌, ◌++◌, map, length, get_or, take, drop, sym, refl, ap, ◌∙◌, subst, inl, inr, ⊎_elim, append_assoc, append-nil, arith}
+use Rattle.std.proofs.Common.{◌≡◌, ℕ, ◌+◌, ◌-◌, ◌<◌, ◌≤◌, true, cond, ◌&&◌, eqb, ltb, leb, List, [], ◌∷◌, ◌++◌, map, length, get_or, take, drop, sym, refl, ap, ◌∙◌, subst, ⊎_elim, append_assoc, append-nil, arith}
 use Rattle.std.specs.List.{AllByRecursion}
 use Rattle.std.proofs.lemmas.List.{length-append, length-drop, map-append, take_at, take_more, drop_more, drop_at}
 use Rattle.std.proofs.lemmas.Bool.{eqb-true, eqb-false, ne_eqb, le-leb, and_from, and_parts, cond_both, both_ways, lt-ltb}
 use Rattle.tables.specs.declared.grammar.State.{State}
 use Rattle.tables.specs.declared.grammar.State.TheVariants as S
-use Rattle.tables.specs.declared.grammar.Class.{Class}
 use Rattle.tables.specs.declared.grammar.Class.TheVariants as C
 use Rattle.tables.specs.declared.grammar.Move.{Move}
 use Rattle.tables.specs.declared.grammar.Move.TheVariants as M
-use Rattle.tables.specs.Machine.{class, next, Out, good, bad, finish, go, run, Told, done, stuck, row, close, begin, move, tell, again, whole}
-use Rattle.tables.specs.Written.{Field, bare, quoted, Shown, Bare, Inside, Allowed, contents, doubled, bytes, Row, fields, Proper, leads, line, lines, Table, ended, cut, rows, text, Whole}
-use Rattle.tables.specs.Laws.{parts, told, Complete, Sound, Reading, Reads, StuckAt, Refused, Placed, inner, single, meaning, Means}
-use Rattle.tables.proofs.Sweep.{Ends, Tells, Over, Stuck, tells_whole}
+use Rattle.tables.specs.Machine.{class, next, Out, good, bad, finish, go, run, Told, done, stuck, row, close, move, tell, again, whole}
+use Rattle.tables.specs.Written.{Field, bare, quoted, Bare, Inside, Allowed, doubled, bytes, Row, Proper, leads, line, lines, Table, ended, cut, rows, text, Whole}
+use Rattle.tables.specs.Laws.{parts, told, Complete, Sound, Reading, Reads, StuckAt, Refused, Placed, inner, single, Means}
+use Rattle.tables.proofs.Sweep.{Ends, Tells, Stuck, tells_whole}
 
 bare_class : (b : ℕ) → Bare b → class b ≡ C.Plain
 bare_class b h =

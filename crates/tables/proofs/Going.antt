@@ -1,5 +1,5 @@
 -- A record half read. Assumes nothing.
-use Rattle.std.proofs.Common.{◌≡◌, ℕ, ◌+◌, ◌-◌, ◌<◌, ◌≤◌, Bool, true, false, eqb, List, [], ◌∷◌, ◌++◌, map, length, get_or, take, drop, set, sym, refl, ap, ◌∙◌, subst, ⊎_elim, arith, Bor}
+use Rattle.std.proofs.Common.{◌≡◌, ℕ, ◌+◌, ◌-◌, ◌<◌, ◌≤◌, Bool, true, false, eqb, List, [], ◌∷◌, ◌++◌, map, length, get_or, take, drop, set, sym, ap, ◌∙◌, subst, ⊎_elim, arith, Bor}
 use Rattle.tables.specs.declared.grammar.Records.{Records}
 use Rattle.tables.specs.declared.grammar.State.{State}
 use Rattle.tables.specs.declared.grammar.State.TheVariants as S
@@ -7,10 +7,10 @@ use Rattle.tables.specs.declared.grammar.Fields.{Fields}
 use Rattle.tables.specs.declared.grammar.Class.{Class}
 use Rattle.tables.specs.declared.grammar.Move.{Move}
 use Rattle.tables.specs.declared.grammar.Move.TheVariants as M
-use Rattle.tables.specs.Machine.{class, next, Out, good, bad, go, run}
+use Rattle.tables.specs.Machine.{class, next, Out, go, run}
 use Rattle.tables.specs.Reads.{rest, Sound, Room, held, Pushed, IsOver}
 use Rattle.std.proofs.lemmas.Bool.{cases_lt, eqb-true, eqb-false}
-use Rattle.std.proofs.lemmas.List.{get_or-take, get_or-map, drop_all, append-nil, append_assoc, map-set, take_more_set, take_all, take-append-le, take-take, length-take, length-map, length-set, length-append, length_push, length-take-le, take_more, get_or-drop, take-append-drop, drop-drop, length-drop}
+use Rattle.std.proofs.lemmas.List.{get_or-take, get_or-map, drop_all, map-set, take_more_set, take_all, take-append-le, take-take, length-map, length-set, length_push, length-take-le, take_more, get_or-drop, length-drop}
 
 -- the bytes from i up to j
 abbrev pub between : ℕ → ℕ → List ℕ → List ℕ

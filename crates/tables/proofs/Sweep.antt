@@ -1,8 +1,8 @@
 -- What is read is written, and what is read before a fault can be completed. Assumes nothing.
-use Rattle.std.proofs.Common.{◌≡◌, ℕ, zero, suc, ◌+◌, ◌-◌, ◌<◌, ◌≤◌, Bool, true, false, cond, ◌&&◌, eqb, leb, ◌⊎◌, List, [], ◌∷◌, ◌++◌, map, length, take, drop, sym, refl, ap, ◌∙◌, subst, inl, inr, ⊎_elim, append_assoc, append-nil, arith}
+use Rattle.std.proofs.Common.{◌≡◌, ℕ, ◌+◌, ◌<◌, cond, ◌&&◌, eqb, leb, ◌⊎◌, List, [], ◌∷◌, ◌++◌, map, length, sym, refl, ap, ◌∙◌, subst, inl, inr, ⊎_elim, append_assoc, append-nil, arith}
 use Rattle.std.specs.List.{AllByRecursion}
 use Rattle.std.proofs.ByRecursion.{All-push}
-use Rattle.std.proofs.lemmas.List.{map_push, length-append, length_push}
+use Rattle.std.proofs.lemmas.List.{map_push, length_push}
 use Rattle.std.proofs.lemmas.Bool.{eqb-true, eqb-false, ne_eqb, leb-true, and_parts, cond_both}
 use Rattle.tables.specs.declared.grammar.State.{State}
 use Rattle.tables.specs.declared.grammar.State.TheVariants as S
@@ -10,8 +10,8 @@ use Rattle.tables.specs.declared.grammar.Class.{Class}
 use Rattle.tables.specs.declared.grammar.Class.TheVariants as C
 use Rattle.tables.specs.declared.grammar.Move.{Move}
 use Rattle.tables.specs.declared.grammar.Move.TheVariants as M
-use Rattle.tables.specs.Machine.{class, next, Told, done, stuck, row, close, begin, move, tell, again, whole}
-use Rattle.tables.specs.Written.{Field, bare, quoted, Shown, Bare, Inside, Allowed, doubled, bytes, Row, fields, Proper, leads, line, lines, Table, ended, cut, rows, text, Whole}
+use Rattle.tables.specs.Machine.{class, next, Told, done, stuck, row, close, begin, move, tell, whole}
+use Rattle.tables.specs.Written.{Field, bare, quoted, Bare, Inside, Allowed, doubled, bytes, Row, Proper, leads, line, lines, Table, ended, cut, rows, text, Whole}
 use Rattle.tables.specs.Laws.{parts, Follows}
 
 -- the bytes of a class

@@ -1,11 +1,11 @@
 -- How the reader follows the machine. Assumes nothing.
-use Rattle.std.specs.Prelude.{◌≡◌, ℕ, ◌+◌, ◌-◌, ◌<◌, ◌≤◌, Bool, true, false, List, [], ◌∷◌, ◌++◌, map, length, take, drop, Some, None, Ok, Err, Option, Result}
+use Rattle.std.specs.Prelude.{◌≡◌, ℕ, ◌+◌, ◌<◌, ◌≤◌, Bool, true, false, List, [], ◌∷◌, ◌++◌, map, length, take, drop, Some, None, Ok, Err, Option, Result}
 use Rattle.std.specs.Borrow.{Bor}
 use Rattle.tables.specs.declared.grammar.Fault.{Fault}
 use Rattle.tables.specs.declared.grammar.Records.{Records}
 use Rattle.tables.specs.declared.grammar.Fields.{Fields}
 use Rattle.tables.specs.declared.grammar.State.TheVariants as S
-use Rattle.tables.specs.Machine.{Out, good, bad, run}
+use Rattle.tables.specs.Machine.{good, bad, run}
 
 abbrev pub rest : Records → List ℕ
 rest r = drop r.pos r.src.now

@@ -1,5 +1,5 @@
 -- The verdict, step by step.
-use Rattle.std.proofs.Common.{◌≡◌, ℕ, ◌≤◌, cond, ltb, List, length, sym, refl, ap, ◌∙◌, subst, arith}
+use Rattle.std.proofs.Common.{◌≡◌, ℕ, ◌≤◌, cond, ltb, List, length, sym, ap, ◌∙◌, subst, arith}
 use Rattle.std.proofs.lemmas.List.{length-take-le}
 use Rattle.std.proofs.lemmas.Bool.{le-ltb}
 use Rattle.plant.specs.declared.records.Line.{Line}
@@ -8,15 +8,14 @@ use Rattle.plant.specs.declared.refusal.Part.TheVariants as P
 use Rattle.plant.specs.declared.refusal.Refusal.{Refusal}
 use Rattle.plant.specs.declared.table.Table.{Table}
 use Rattle.plant.specs.declared.tree.Node.{Node}
-use Rattle.plant.specs.Nodes.{IsPlant, Drawn, tree_of}
+use Rattle.plant.specs.Nodes.{IsPlant, Drawn}
 use Rattle.plant.specs.Records.{StationsInRange, LinesInRange}
 use Rattle.plant.specs.Tables.{listed, Sound}
-use Rattle.plant.specs.Trees.{Tree}
 use Rattle.rows.specs.Lines.{lines}
 use Rattle.rows.specs.Stations.{stations}
 use Rattle.rows.specs.Verdict as Rows
 use Rattle.drawing.specs.Verdict as Drawing
-use Rattle.texts.specs.Verdict.{Verdict, accepted, refused, because, on_tree, on_lines, on_stations, unless_long, verdict}
+use Rattle.texts.specs.Verdict.{Verdict, refused, because, on_tree, on_lines, on_stations, verdict}
 
 short : (text : List ℕ) (v w : Verdict) → length text ≤ 65535 → ◌≡◌ {A = Verdict} (cond (ltb 65535 (length text)) w v) v
 short text v w h = ap (λ b. cond b w v) (le-ltb 65535 (length text) h)

@@ -7,9 +7,9 @@ use Rattle.plant.specs.declared.refusal.Part.TheVariants as P
 use Rattle.plant.specs.declared.refusal.Reason.{Reason}
 use Rattle.plant.specs.declared.refusal.Reason.TheVariants.{TextTooLong}
 use Rattle.plant.specs.declared.refusal.Refusal.{Refusal}
-use Rattle.plant.specs.Nodes.{IsPlant, numbered, tree_of}
+use Rattle.plant.specs.Nodes.{IsPlant, tree_of}
 use Rattle.plant.specs.Tables.{listed, Sound}
-use Rattle.plant.specs.Trees.{Tree, net_of}
+use Rattle.plant.specs.Trees.{Tree}
 use Rattle.rows.specs.Lines.{lines}
 use Rattle.rows.specs.Stations.{stations}
 use Rattle.rows.specs.Verdict as Rows

@@ -1,5 +1,4 @@
 use Rattle.std.proofs.Common.{length, arith}
-use Rattle.cells.specs.Joins.{first_right, second_left}
 use Rattle.filling.proofs.Passes.{through_fair, through_tops}
 use Rattle.filling.proofs.Standing.{row_room}
 use Rattle.filling.proofs.fill.through.Goals as goal

@@ -4,8 +4,8 @@ use Rattle.plan.proofs.Plan.blank.Goals as goal
 
 pub invariant_of-result : goal.invariant_of-result
 invariant_of-result c = record {
-      wide = (refl, refl, refl);
-      few = (omega arith, omega arith, omega arith);
-      cheap = omega arith;
-      plant = ∣ (λ e. absurd (true≢false (sym e))) ∣₁;
-    }
+  wide = (refl, refl, refl);
+  few = (omega arith, omega arith, omega arith);
+  cheap = omega arith;
+  plant = ∣ (λ e. absurd (true≢false (sym e))) ∣₁;
+}

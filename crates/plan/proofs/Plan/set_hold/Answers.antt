@@ -1,7 +1,5 @@
-use Rattle.std.proofs.Common.{◌≡◌, ℕ, ◌≤◌, length, ℤ, nat_abs, Some, None, sym, refl, ap, ◌∙◌, subst, arith, w64, SFits, rules}
+use Rattle.std.proofs.Common.{◌≡◌, ◌≤◌, length, Some, sym, ap, ◌∙◌, arith}
 use Rattle.std.proofs.lemmas.List.{length-set}
-use Rattle.std.proofs.lemmas.Int.{to_z-of_z, ints}
-use Rattle.std.proofs.lemmas.Bool.{leb-true}
 use Rattle.plan.specs.Ledger.{hold_set, hold_of}
 use Rattle.plant.specs.declared.records.Hold.{Hold}
 use Rattle.plan.proofs.Steps.{accepted, books_station, old_station, takes_hold, hidden_hold}

@@ -1,4 +1,4 @@
-use Rattle.std.proofs.Common.{◌≡◌, List, length, sym, refl, ap, ◌∙◌, subst, arith, w64, SFits, rules}
+use Rattle.std.proofs.Common.{List, length, sym, refl, ap, ◌∙◌, subst, arith, w64, SFits, rules}
 use mathlib.Core.Path.{subst₃}
 use Rattle.std.proofs.lemmas.Int.{to_z-of_z}
 use Rattle.plant.specs.declared.records.Station.{Station}

@@ -1,4 +1,4 @@
-use Rattle.std.proofs.Common.{◌≡◌, List, [], ◌∷◌, ℤ, subst, arith, w64, to_z, of_z}
+use Rattle.std.proofs.Common.{ℤ, subst, arith, w64, to_z, of_z}
 use Rattle.std.proofs.lemmas.Int.{to_z-of_z}
 use Rattle.tables.specs.Laid.{Wrote}
 use Rattle.tables.specs.Numerals.{spelled, spelledℤ}

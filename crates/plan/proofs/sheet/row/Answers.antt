@@ -1,9 +1,9 @@
-use Rattle.std.proofs.Common.{◌≡◌, ℤ, subst, arith, w64, SFits, to_z, of_z, rules}
+use Rattle.std.proofs.Common.{ℤ, subst, arith, w64, SFits, rules}
 use Rattle.std.proofs.lemmas.Int.{to_z-of_z}
 use Rattle.tables.specs.Laid.{Wrote}
 use Rattle.tables.specs.Numerals.{spelled}
 use Rattle.tables.proofs.Laying.{then}
-use Rattle.plan.specs.Sheets.{comma, figures, row}
+use Rattle.plan.specs.Sheets.{comma, figures}
 use Rattle.plan.proofs.sheet.row.Goals as goal
 
 pub returns : goal.returns

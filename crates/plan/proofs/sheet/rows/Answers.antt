@@ -1,4 +1,4 @@
-use Rattle.std.proofs.Common.{◌≡◌, ℕ, ◌+◌, ◌*◌, ◌≤◌, Bool, List, sym, ◌∙◌, subst, subst₂, arith}
+use Rattle.std.proofs.Common.{ℕ, ◌+◌, ◌*◌, ◌≤◌, List, sym, ◌∙◌, subst₂, arith}
 use Rattle.plant.specs.Selections.{among}
 use Rattle.tables.specs.Laid.{Wrote}
 use Rattle.plan.specs.Sheets.{rows}

@@ -1,4 +1,4 @@
-use Rattle.std.proofs.Common.{◌≡◌, sym, refl, ap, ◌∙◌}
+use Rattle.std.proofs.Common.{refl}
 use Rattle.std.proofs.lemmas.Result.{err_from_is_err_and}
 use Rattle.rows.proofs.Reading.{first_bad, first_row, start, next_bad, next_wrong, next_fine, less}
 use Rattle.rows.proofs.read.read.Goals as goal

@@ -1,4 +1,4 @@
-use Rattle.std.proofs.Common.{ℤ, Some, None, Option, sym, ap, ◌∙◌, w64, SFits, rules}
+use Rattle.std.proofs.Common.{ℤ, Some, Option, ap, ◌∙◌, w64, SFits, rules}
 use Rattle.std.proofs.lemmas.Int.{to_z-of_z}
 use Rattle.tables.specs.Laws.{meaning}
 use Rattle.rows.specs.StationRow.{station_fine}

@@ -1,5 +1,5 @@
 use Rattle.std.proofs.Common.{◌≡◌, ◌+◌, ◌<◌, ◌≤◌, List, [], ◌∷◌, ◌++◌, length, sym, ap, ◌∙◌, subst, arith, length-append}
-use Rattle.plant.specs.Held.{held, room}
+use Rattle.plant.specs.Held.{held}
 use Rattle.cells.specs.Subtrees.{sub, leaves}
 use Rattle.joins.specs.declared.cell.Spot.{Spot}
 use Rattle.solver.specs.Pending.{first_spot, second_spot, Pending, load, size_at, leaves_at}

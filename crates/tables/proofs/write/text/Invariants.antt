@@ -1,4 +1,4 @@
-use Rattle.std.proofs.Common.{◌+◌, ◌≤◌, length, take}
+use Rattle.std.proofs.Common.{take}
 use Rattle.tables.specs.Laid.{Wrote}
 use Rattle.tables.proofs.write.text.Given as goal
 

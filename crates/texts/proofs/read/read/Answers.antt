@@ -1,14 +1,12 @@
-use Rattle.std.proofs.Common.{◌≡◌, ℕ, List, sym, ap, ◌∙◌, subst}
+use Rattle.std.proofs.Common.{◌≡◌, List, sym, ap, ◌∙◌, subst}
 use Rattle.std.proofs.lemmas.Result.{err_from_is_err_and}
 use Rattle.plant.specs.declared.records.Line.{Line}
-use Rattle.plant.specs.declared.refusal.Refusal.{Refusal}
-use Rattle.plant.specs.declared.tree.Node.{Node}
 use Rattle.plant.specs.Nodes.{Drawn, tree_of}
 use Rattle.plant.specs.Tables.{listed}
-use Rattle.plant.specs.Trees.{Tree, net_of}
+use Rattle.plant.specs.Trees.{net_of}
 use Rattle.drawing.specs.Verdict as Drawing
 use Rattle.drawing.proofs.Numbering.{tree_of_numbered}
-use Rattle.texts.specs.Verdict.{on_tree, accepted, refused}
+use Rattle.texts.specs.Verdict.{on_tree, accepted}
 use Rattle.texts.proofs.Judging.{tables_read, tree_wrong, is_plant}
 use Rattle.texts.proofs.read.read.Goals as goal
 

@@ -1,7 +1,7 @@
-use Rattle.std.proofs.Common.{◌≡◌, ◌+◌, ◌<◌, ◌≤◌, true, false, length, sym, refl, ap, ◌∙◌, arith}
+use Rattle.std.proofs.Common.{◌≤◌, length, sym, refl, ◌∙◌, arith}
 use Rattle.std.proofs.lemmas.List.{length-take-le}
 use Rattle.std.proofs.lemmas.Bool.{false≢true}
-use Rattle.plant.specs.Held.{held, room}
+use Rattle.plant.specs.Held.{room}
 use Rattle.drawing.specs.Sketches.{waiting}
 use Rattle.drawing.proofs.Marking.{tally_le}
 use Rattle.drawing.proofs.Growing.{popped_some, two, fewer, meet_same, join_grown}

@@ -1,4 +1,4 @@
-use Rattle.std.proofs.Common.{◌≡◌, ◌<◌, length, sym, refl, ap, ◌∙◌, arith}
+use Rattle.std.proofs.Common.{◌<◌, length, arith}
 use Rattle.drawing.proofs.Marking.{tally_lt}
 use Rattle.drawing.proofs.Growing.{leaf_built}
 use Rattle.drawing.proofs.sketch.Sketch.leaf.Goals as goal

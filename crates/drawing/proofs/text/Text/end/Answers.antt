@@ -1,4 +1,4 @@
-use Rattle.std.proofs.Common.{refl, ap}
+use Rattle.std.proofs.Common.{refl}
 use Rattle.std.proofs.lemmas.List.{drop_more, drop_all}
 use Rattle.drawing.specs.Grammar.{stop}
 use Rattle.drawing.proofs.Bytes.{stop_more, faulted_here}

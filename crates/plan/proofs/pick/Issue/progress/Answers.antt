@@ -1,4 +1,4 @@
-use Rattle.std.proofs.Common.{◌≡◌, List, length, sym, ap, ◌∙◌, subst, arith}
+use Rattle.std.proofs.Common.{List, length, sym, ap, ◌∙◌, subst, arith}
 use Rattle.plant.specs.declared.records.Station.{Station}
 use Rattle.plant.specs.Records.{StationsInRange}
 use Rattle.plant.specs.Selections.{among, hours}

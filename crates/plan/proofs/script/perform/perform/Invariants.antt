@@ -1,4 +1,4 @@
-use Rattle.std.proofs.Common.{◌-◌, ◌≤◌, length}
+use Rattle.std.proofs.Common.{◌-◌, ◌≤◌}
 use Rattle.plan.proofs.script.perform.perform.Given as goal
 
 abbrev pub invariant-loop-i : goal.invariant-loop-i

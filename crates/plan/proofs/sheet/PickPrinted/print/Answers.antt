@@ -1,4 +1,4 @@
-use Rattle.std.proofs.Common.{◌≡◌, ℕ, List, length, ℤ, codes, sym, ap, ◌∙◌, subst, subst₂, arith, w64, SFits, rules}
+use Rattle.std.proofs.Common.{◌≡◌, ℕ, List, length, ℤ, codes, ap, ◌∙◌, subst₂, arith, w64, SFits, rules}
 use Rattle.std.proofs.lemmas.Int.{to_z-of_z}
 use Rattle.plant.specs.declared.records.Station.{Station}
 use Rattle.plant.specs.declared.selection.Selection.{Selection}

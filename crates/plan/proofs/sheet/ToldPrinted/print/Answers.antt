@@ -1,4 +1,4 @@
-use Rattle.std.proofs.Common.{◌≡◌, ℕ, List, codes, ap, subst, arith}
+use Rattle.std.proofs.Common.{ℕ, codes, subst, arith}
 use Rattle.plant.specs.Refusals.{number, part_number}
 use Rattle.tables.specs.Laid.{Wrote}
 use Rattle.tables.specs.Numerals.{spelled}

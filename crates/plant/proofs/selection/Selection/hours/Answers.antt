@@ -1,4 +1,4 @@
-use Rattle.std.proofs.Common.{◌≡◌, ◌+◌, ◌≤◌, subst, arith}
+use Rattle.std.proofs.Common.{◌+◌, ◌≤◌, arith}
 use Rattle.plant.specs.Records.{station}
 use Rattle.plant.specs.Selections.{open_station, among}
 use Rattle.plant.proofs.Sums.{upto_more, cond_small}

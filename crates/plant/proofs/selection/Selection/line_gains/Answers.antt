@@ -1,5 +1,5 @@
-use Rattle.std.proofs.Common.{◌≡◌, ◌+◌, ◌≤◌, cond, ℤ, pos, nat_abs, sym, ◌∙◌, subst, arith, rules}
-use Rattle.std.proofs.lemmas.Int.{ints, to_z-of_z}
+use Rattle.std.proofs.Common.{◌≡◌, ◌≤◌, cond, ℤ, pos, nat_abs, sym, ◌∙◌, subst, arith}
+use Rattle.std.proofs.lemmas.Int.{ints}
 use Rattle.plant.specs.Records.{line}
 use Rattle.plant.specs.Selections.{open_line, among}
 use Rattle.plant.proofs.Sums.{sum_step, cond-smallℤ}

@@ -1,4 +1,4 @@
-use Rattle.std.proofs.Common.{◌≡◌, ℕ, ◌<◌, true, false, not, ◌&&◌, length, get_or}
+use Rattle.std.proofs.Common.{◌≡◌, ℕ, ◌<◌, false, not, ◌&&◌, length, get_or}
 use Rattle.plant.proofs.selection.Selection.without.Given as goal
 
 abbrev pub invariant-loop-k : goal.invariant-loop-k

@@ -1,4 +1,4 @@
-use Rattle.std.proofs.Common.{◌≡◌, ◌<◌, ◌≤◌, length, sym, arith, length-set, lt-ltb}
+use Rattle.std.proofs.Common.{◌≡◌, ◌<◌, length, sym, arith, length-set, lt-ltb}
 use Rattle.plant.specs.Held.{held}
 use Rattle.std.proofs.lemmas.List.{take_more_set, length-take-le}
 use Rattle.plant.proofs.stack.Stack.push.Goals as goal
