@@ -1,4 +1,4 @@
--- What `urgent-above` says, by its two ways. Assumes nothing.
+-- What `urgent_above` says, by its two ways. Assumes nothing.
 use Rattle.std.specs.Prelude.{◌≡◌, ℕ, ◌+◌, ◌<◌, true, ◌⊎◌, ℤ, ◌+ℤ◌, ◌==◌, int_lt, nat_lt}
 use Rattle.std.proofs.Common.{inl, inr, ⊎_elim, arith}
 use Rattle.std.proofs.lemmas.Int.{ints}
