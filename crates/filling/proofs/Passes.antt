@@ -59,17 +59,17 @@ module _ {F : Type 0} {f : Station → F} {g : Line → F} {nil : F} {plus : F �
       halves_stand = subst (Builds (site p).net) at.tree_is (sub_stands p ready v)
 
       module _ (m : Bool) (first second : List (Option F)) (share : Share F)
-          (first_long : length first ≡ get_or reach a 0 + 1) (first-same : (i : ℕ) → i < get_or reach a 0 + 1 → cell_of first i ≡ cell_of cells (row_start (p.budget + 1) a l (first_right j r m) + i))
+          (first_long : length first ≡ get_or reach a 0 + 1) (first_same : (i : ℕ) → i < get_or reach a 0 + 1 → cell_of first i ≡ cell_of cells (row_start (p.budget + 1) a l (first_right j r m) + i))
           (second_long : length second ≡ get_or reach b 0 + 1) (second_same : (i : ℕ) → i < get_or reach b 0 + 1 → cell_of second i ≡ cell_of cells (row_start (p.budget + 1) b (second_left j l m) r + i))
           (figure_is : share.figure ≡ between_figure nil (scores f g p) j (middle p a) m) (hours_is : share.hours ≡ between_hours (site p) j (middle p a) m) (allowed_is : share.allowed ≡ passes (site p) j (middle p a) m) where
         pub through_fair : Fair sz limit (cell_of first) (cell_of second) share.figure
         through_fair i i' x y e e' = rw figure_is
             (join_fair laws.ops (site p) (scores f g p) (modest p ready laws) j (sub (tree p) a) (sub (tree p) b) (middle p a) m l (first_right j r m) (second_left j l m) r i i' x y few_halves
-            (row_choice first a l (first_right j r m) i x at.first_below first_long first-same e) (row_choice second b (second_left j l m) r i' y at.second_below second_long second_same e'))
+            (row_choice first a l (first_right j r m) i x at.first_below first_long first_same e) (row_choice second b (second_left j l m) r i' y at.second_below second_long second_same e'))
 
         pub through_tops : (o : Option F) → Tops above (Joined plus first second share h) o → Tops above (Passing nil plus f g p cells j a b l r h m) o
         through_tops o t =
-            let ef : (k : ℕ) → k ≤ h → cell_of first k ≡ memory (p.budget + 1) cells a l (first_right j r m) k = λ k lt. row_whole first a l (first_right j r m) k at.first_below first_long first-same (omega arith) in
+            let ef : (k : ℕ) → k ≤ h → cell_of first k ≡ memory (p.budget + 1) cells a l (first_right j r m) k = λ k lt. row_whole first a l (first_right j r m) k at.first_below first_long first_same (omega arith) in
             let eg : (k : ℕ) → k ≤ h → cell_of second k ≡ memory (p.budget + 1) cells b (second_left j l m) r k = λ k lt. row_whole second b (second_left j l m) r k at.second_below second_long second_same (omega arith) in
             let fm = memory (p.budget + 1) cells a l (first_right j r m) in
             let gm = memory (p.budget + 1) cells b (second_left j l m) r in

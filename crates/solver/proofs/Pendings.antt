@@ -88,8 +88,8 @@ module _ {F : Type 0} (nil : F) (plus : F → F → F) (f : Station → F) (g : 
       → leaves_at p x ≡ leaves_at p one + leaves_at p two → length marks' ≡ 64 → Pending nil plus f g p cells top ((xs ++ two ∷ []) ++ one ∷ []) marks'
   pending_join xs x one two marks marks' old in_one in_two on_one on_two clear12 clear21 kept entry_one entry_two traced count wide =
       let rest = apart_init p xs x old.apart in
-      let from-x = apart_last p xs x old.apart in
-      let old_clear : (e : Spot) → In e xs → (i : ℕ) → On e i ≡ true → Inner x i ≡ false = λ e i_xs i on. not_so (Inner x i) ((from-x e i_xs).0 i on) in
+      let from_x = apart_last p xs x old.apart in
+      let old_clear : (e : Spot) → In e xs → (i : ℕ) → On e i ≡ true → Inner x i ≡ false = λ e i_xs i on. not_so (Inner x i) ((from_x e i_xs).0 i on) in
       record {
         wide = wide;
         each = λ e i. ⊎_elim
@@ -101,16 +101,16 @@ module _ {F : Type 0} (nil : F) (plus : F → F → F) (f : Station → F) (g : 
             (λ is. subst (Entry p cells marks') (sym is) entry_one)
             (in_cases e one (xs ++ two ∷ []) i);
         apart = apart_more p (xs ++ two ∷ []) one
-            (apart_more p xs two rest (λ e i. ((λ k on inn. (from-x e i).0 k on (in_two k inn)), (λ k on inn. (from-x e i).1 k (on_two k on) inn))))
+            (apart_more p xs two rest (λ e i. ((λ k on inn. (from_x e i).0 k on (in_two k inn)), (λ k on inn. (from_x e i).1 k (on_two k on) inn))))
             (λ e i. ⊎_elim
-            (λ i_xs. ((λ k on inn. (from-x e i_xs).0 k on (in_one k inn)), (λ k on inn. (from-x e i_xs).1 k (on_one k on) inn)))
+            (λ i_xs. ((λ k on inn. (from_x e i_xs).0 k on (in_one k inn)), (λ k on inn. (from_x e i_xs).1 k (on_one k on) inn)))
             (λ is. subst (λ (e : Spot). Clear p e one × Clear p one e) (sym is) (clear21, clear12))
             (in_cases e two xs i));
         complete = λ S traces agrees.
             let t1 = traces one (in_new one (xs ++ two ∷ [])) in
             let t2 = traces two (in_old two one (xs ++ two ∷ []) (in_new two xs)) in
             let agree_x : (i : ℕ) → On x i ≡ true → Inner one i ≡ false → Inner two i ≡ false → S i ≡ get_or marks' i false = λ i on n1 n2. agrees i (λ e ie. ⊎_elim
-            (λ i2. ⊎_elim (λ i_xs. not_so (Inner e i) ((from-x e i_xs).1 i on)) (λ is. subst (λ (e : Spot). Inner e i ≡ false) (sym is) n2) (in_cases e two xs i2))
+            (λ i2. ⊎_elim (λ i_xs. not_so (Inner e i) ((from_x e i_xs).1 i on)) (λ is. subst (λ (e : Spot). Inner e i ≡ false) (sym is) n2) (in_cases e two xs i2))
             (λ is. subst (λ (e : Spot). Inner e i ≡ false) (sym is) n1)
             (in_cases e one (xs ++ two ∷ []) ie)) in
             old.complete S
@@ -132,14 +132,14 @@ module _ {F : Type 0} (nil : F) (plus : F → F → F) (f : Station → F) (g : 
   -- a leaf is done
   pub pending_leaf : (xs : List Spot) (x : Spot) (marks : List Bool) (k : ℕ) → Pending nil plus f g p cells top (xs ++ x ∷ []) marks → tree_at p x ≡ leaf k → x.hours ≡ 0 → Pending nil plus f g p cells top xs marks
   pending_leaf xs x marks k old is none =
-      let from-x = apart_last p xs x old.apart in
+      let from_x = apart_last p xs x old.apart in
       let here = old.each x (in_new x xs) in
       record {
         wide = old.wide;
         each = λ e i. old.each e (in_old e x xs i);
         apart = apart_init p xs x old.apart;
         complete = λ S traces agrees.
-            let at : (i : ℕ) → On x i ≡ true → S i ≡ get_or marks i false = λ i on. agrees i (λ e ie. not_so (Inner e i) ((from-x e ie).1 i on)) in
+            let at : (i : ℕ) → On x i ≡ true → S i ≡ get_or marks i false = λ i on. agrees i (λ e ie. not_so (Inner e i) ((from_x e ie).1 i on)) in
             let l = at _ (left_on (site p).net (tree_at p x)) ∙ here.at_left in
             let r = at _ (right_on (site p).net (tree_at p x)) ∙ here.at_right in
             let lk : S ((site p).net.from k) ≡ x.left = subst (λ (t : Tree). S (left (site p).net t) ≡ x.left) is l in

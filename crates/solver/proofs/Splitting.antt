@@ -38,7 +38,7 @@ module _ {F : Type 0} {f : Station → F} {g : Line → F} {nil : F} {plus : F �
   few_halves = subst (λ (t : Tree). records t * record_limit ≤ limit) at.tree_is (few_sub p ready v)
 
   module _ (m : Bool) (first second : List (Option F)) (share : Share F) (count : ℕ)
-      (first-same : (k : ℕ) → k < p.budget + 1 → cell_of first k ≡ cell_of cells (row_start (p.budget + 1) a l (first_right j r m) + k))
+      (first_same : (k : ℕ) → k < p.budget + 1 → cell_of first k ≡ cell_of cells (row_start (p.budget + 1) a l (first_right j r m) + k))
       (second_same : (k : ℕ) → k < p.budget + 1 → cell_of second k ≡ cell_of cells (row_start (p.budget + 1) b (second_left j l m) r + k))
       (figure_is : share.figure ≡ between_figure nil (scores f g p) j (middle p a) m) (hours_is : share.hours ≡ between_hours (site p) j (middle p a) m) (allowed_is : share.allowed ≡ passes (site p) j (middle p a) m)
       (count_is : count ≡ ways share h) where
@@ -48,7 +48,7 @@ module _ {F : Type 0} {f : Station → F} {g : Line → F} {nil : F} {plus : F �
     pub split_fair : (i i' : ℕ) (x y : F) → i ≤ p.budget → i' ≤ p.budget → cell_of first i ≡ Some x → cell_of second i' ≡ Some y → sz x + sz y + sz share.figure ≤ limit
     split_fair i i' x y li li' e e' = rw figure_is
         (join_fair laws.ops (site p) (scores f g p) (modest p ready laws) j (sub (tree p) a) (sub (tree p) b) (middle p a) m l (first_right j r m) (second_left j l m) r i i' x y few_halves
-        ((filled.done a at.first_below l (first_right j r m) i li).reached x (sym (first-same i (omega arith)) ∙ e))
+        ((filled.done a at.first_below l (first_right j r m) i li).reached x (sym (first_same i (omega arith)) ∙ e))
         ((filled.done b at.second_below (second_left j l m) r i' li').reached y (sym (second_same i' (omega arith)) ∙ e')))
 
     pub joined_pass : (i : ℕ) → i < count → joined_of plus share.figure (cell_of first i) (cell_of second (count - 1 - i)) ≡ Some goal → PassAttains nil plus f g p cells j a b l r h goal m i (count - 1 - i)
@@ -62,7 +62,7 @@ module _ {F : Type 0} {f : Station → F} {g : Line → F} {nil : F} {plus : F �
             sum = omega (arith, w.1);
             p = parts.0;
             q = parts.1;
-            holds_p = sym (first-same i (omega arith)) ∙ parts.2;
+            holds_p = sym (first_same i (omega arith)) ∙ parts.2;
             holds_q = sym (second_same (count - 1 - i) (omega arith)) ∙ parts.3;
             makes = parts.4 ∙ ap (plus (plus parts.0 parts.1)) figure_is;
           },
@@ -74,7 +74,7 @@ module _ {F : Type 0} {f : Station → F} {g : Line → F} {nil : F} {plus : F �
         let sum = u.1.sum in
         let is : count ≡ h + 1 - share.hours = omega arith in
         let e : count - 1 - i ≡ i' = omega arith in
-        let ep : cell_of first i ≡ Some u.1.p = first-same i (omega arith) ∙ u.1.holds_p in
+        let ep : cell_of first i ≡ Some u.1.p = first_same i (omega arith) ∙ u.1.holds_p in
         let eq : cell_of second (count - 1 - i) ≡ Some u.1.q = ap (cell_of second) e ∙ second_same i' (omega arith) ∙ u.1.holds_q in
         (omega arith, rw (ep, eq) (ap Some (ap (plus (plus u.1.p u.1.q)) figure_is ∙ sym u.1.makes)))
 

@@ -32,14 +32,14 @@ attains-requires g c x y' e e' =
     let first = c.row_of-first.result.now in
     let second = c.row_of-second.result.now in
     let n = c.ways-count.result in
-    let first-same = rw c.first_right-meets.ensures at c.row_of-first.ensures.same in
+    let first_same = rw c.first_right-meets.ensures at c.row_of-first.ensures.same in
     let second_same = rw c.second_left-begins.ensures at c.row_of-second.ensures.same in
     let i = c.hours.i in
-    let small = count_small laws p c.requires.ready c.args.cells.now s.node c.requires.filled H.join H.first H.second c.requires.joins s.left s.right s.hours c.requires.hours c.args.goal m first second c.between-share.result n first-same second_same c.between-share.ensures.figure c.between-share.ensures.hours c.between-share.ensures.allowed c.ways-count.ensures i c.hours-test.true in
-    let other = count_small laws p c.requires.ready c.args.cells.now s.node c.requires.filled H.join H.first H.second c.requires.joins s.left s.right s.hours c.requires.hours c.args.goal m first second c.between-share.result n first-same second_same c.between-share.ensures.figure c.between-share.ensures.hours c.between-share.ensures.allowed c.ways-count.ensures (n - 1 - i) (omega (arith, c.hours-test.true)) in
+    let small = count_small laws p c.requires.ready c.args.cells.now s.node c.requires.filled H.join H.first H.second c.requires.joins s.left s.right s.hours c.requires.hours c.args.goal m first second c.between-share.result n first_same second_same c.between-share.ensures.figure c.between-share.ensures.hours c.between-share.ensures.allowed c.ways-count.ensures i c.hours-test.true in
+    let other = count_small laws p c.requires.ready c.args.cells.now s.node c.requires.filled H.join H.first H.second c.requires.joins s.left s.right s.hours c.requires.hours c.args.goal m first second c.between-share.result n first_same second_same c.between-share.ensures.figure c.between-share.ensures.hours c.between-share.ensures.allowed c.ways-count.ensures (n - 1 - i) (omega (arith, c.hours-test.true)) in
     let one = get_or_read first i c.index-first-i.result (omega (arith, c.row_of-first.ensures.long)) c.index-first-i.is None in
     let two = get_or_read second (n - 1 - i) c.index-second-count.result (omega (arith, c.row_of-second.ensures.long)) c.index-second-count.is None in
-    split_fair laws p c.requires.ready c.args.cells.now s.node c.requires.filled H.join H.first H.second c.requires.joins s.left s.right s.hours c.requires.hours c.args.goal m first second c.between-share.result n first-same second_same c.between-share.ensures.figure c.between-share.ensures.hours c.between-share.ensures.allowed c.ways-count.ensures i (n - 1 - i) x y' (omega arith) (omega arith) (sym one ∙ e) (sym two ∙ e')
+    split_fair laws p c.requires.ready c.args.cells.now s.node c.requires.filled H.join H.first H.second c.requires.joins s.left s.right s.hours c.requires.hours c.args.goal m first second c.between-share.result n first_same second_same c.between-share.ensures.figure c.between-share.ensures.hours c.between-share.ensures.allowed c.ways-count.ensures i (n - 1 - i) x y' (omega arith) (omega arith) (sym one ∙ e) (sym two ∙ e')
 
 pub hours-preserved : goal.hours-preserved
 hours-preserved g c =
@@ -52,11 +52,11 @@ hours-preserved g c =
     let first = c.row_of-first.result.now in
     let second = c.row_of-second.result.now in
     let n = c.ways-count.result in
-    let first-same = rw c.first_right-meets.ensures at c.row_of-first.ensures.same in
+    let first_same = rw c.first_right-meets.ensures at c.row_of-first.ensures.same in
     let second_same = rw c.second_left-begins.ensures at c.row_of-second.ensures.same in
     let i = c.hours.i in
-    let small = count_small laws p c.requires.ready c.args.cells.now s.node c.requires.filled H.join H.first H.second c.requires.joins s.left s.right s.hours c.requires.hours c.args.goal m first second c.between-share.result n first-same second_same c.between-share.ensures.figure c.between-share.ensures.hours c.between-share.ensures.allowed c.ways-count.ensures i c.hours-test.true in
-    let other = count_small laws p c.requires.ready c.args.cells.now s.node c.requires.filled H.join H.first H.second c.requires.joins s.left s.right s.hours c.requires.hours c.args.goal m first second c.between-share.result n first-same second_same c.between-share.ensures.figure c.between-share.ensures.hours c.between-share.ensures.allowed c.ways-count.ensures (n - 1 - i) (omega (arith, c.hours-test.true)) in
+    let small = count_small laws p c.requires.ready c.args.cells.now s.node c.requires.filled H.join H.first H.second c.requires.joins s.left s.right s.hours c.requires.hours c.args.goal m first second c.between-share.result n first_same second_same c.between-share.ensures.figure c.between-share.ensures.hours c.between-share.ensures.allowed c.ways-count.ensures i c.hours-test.true in
+    let other = count_small laws p c.requires.ready c.args.cells.now s.node c.requires.filled H.join H.first H.second c.requires.joins s.left s.right s.hours c.requires.hours c.args.goal m first second c.between-share.result n first_same second_same c.between-share.ensures.figure c.between-share.ensures.hours c.between-share.ensures.allowed c.ways-count.ensures (n - 1 - i) (omega (arith, c.hours-test.true)) in
     let one = get_or_read first i c.index-first-i.result (omega (arith, c.row_of-first.ensures.long)) c.index-first-i.is None in
     let two = get_or_read second (n - 1 - i) c.index-second-count.result (omega (arith, c.row_of-second.ensures.long)) c.index-second-count.is None in
     (c.hours.invariant.0, below_more _ _ c.hours.invariant.1 (λ e. both_ways false refl (c.if-attains.ensures.1 (rw (one, two) e))))
@@ -72,9 +72,9 @@ states-preserved g c =
     let first = c.row_of-first.result.now in
     let second = c.row_of-second.result.now in
     let n = c.ways-count.result in
-    let first-same = rw c.first_right-meets.ensures at c.row_of-first.ensures.same in
+    let first_same = rw c.first_right-meets.ensures at c.row_of-first.ensures.same in
     let second_same = rw c.second_left-begins.ensures at c.row_of-second.ensures.same in
-    (c.hours.invariant.0, below_more _ _ c.states.invariant.1 (state_none laws p c.requires.ready c.args.cells.now s.node c.requires.filled H.join H.first H.second c.requires.joins s.left s.right s.hours c.requires.hours c.args.goal m first second c.between-share.result n first-same second_same c.between-share.ensures.figure c.between-share.ensures.hours c.between-share.ensures.allowed c.ways-count.ensures c.hours.i c.hours-test.false c.hours.invariant.1))
+    (c.hours.invariant.0, below_more _ _ c.states.invariant.1 (state_none laws p c.requires.ready c.args.cells.now s.node c.requires.filled H.join H.first H.second c.requires.joins s.left s.right s.hours c.requires.hours c.args.goal m first second c.between-share.result n first_same second_same c.between-share.ensures.figure c.between-share.ensures.hours c.between-share.ensures.allowed c.ways-count.ensures c.hours.i c.hours-test.false c.hours.invariant.1))
 
 no_more : (A : Bool → Type 0) (n : ℕ) → 2 ≤ n → ((k : ℕ) → k < n → A (eqb k 1)) → (m : Bool) → A m
 no_more A n le all true = all 1 (omega arith)
@@ -98,12 +98,12 @@ returns-then-attains g c =
     let first = c.row_of-first.result.now in
     let second = c.row_of-second.result.now in
     let n = c.ways-count.result in
-    let first-same = rw c.first_right-meets.ensures at c.row_of-first.ensures.same in
+    let first_same = rw c.first_right-meets.ensures at c.row_of-first.ensures.same in
     let second_same = rw c.second_left-begins.ensures at c.row_of-second.ensures.same in
     let i = c.hours.i in
-    let small = count_small laws p c.requires.ready c.args.cells.now s.node c.requires.filled H.join H.first H.second c.requires.joins s.left s.right s.hours c.requires.hours c.args.goal m first second c.between-share.result n first-same second_same c.between-share.ensures.figure c.between-share.ensures.hours c.between-share.ensures.allowed c.ways-count.ensures i c.hours-test.true in
-    let other = count_small laws p c.requires.ready c.args.cells.now s.node c.requires.filled H.join H.first H.second c.requires.joins s.left s.right s.hours c.requires.hours c.args.goal m first second c.between-share.result n first-same second_same c.between-share.ensures.figure c.between-share.ensures.hours c.between-share.ensures.allowed c.ways-count.ensures (n - 1 - i) (omega (arith, c.hours-test.true)) in
+    let small = count_small laws p c.requires.ready c.args.cells.now s.node c.requires.filled H.join H.first H.second c.requires.joins s.left s.right s.hours c.requires.hours c.args.goal m first second c.between-share.result n first_same second_same c.between-share.ensures.figure c.between-share.ensures.hours c.between-share.ensures.allowed c.ways-count.ensures i c.hours-test.true in
+    let other = count_small laws p c.requires.ready c.args.cells.now s.node c.requires.filled H.join H.first H.second c.requires.joins s.left s.right s.hours c.requires.hours c.args.goal m first second c.between-share.result n first_same second_same c.between-share.ensures.figure c.between-share.ensures.hours c.between-share.ensures.allowed c.ways-count.ensures (n - 1 - i) (omega (arith, c.hours-test.true)) in
     let one = get_or_read first i c.index-first-i.result (omega (arith, c.row_of-first.ensures.long)) c.index-first-i.is None in
     let two = get_or_read second (n - 1 - i) c.index-second-count.result (omega (arith, c.row_of-second.ensures.long)) c.index-second-count.is None in
     let hit = rw (one, two) at (c.if-attains.ensures.0 refl) in
-    found_first laws p c.requires.ready c.args.cells.now s.node c.requires.filled H.join H.first H.second c.requires.joins s.left s.right s.hours c.requires.hours c.args.goal m first second c.between-share.result n first-same second_same c.between-share.ensures.figure c.between-share.ensures.hours c.between-share.ensures.allowed c.ways-count.ensures i c.hours-test.true hit c.hours.invariant.1 (λ e. c.states.invariant.1 0 (omega (arith, eqb-true c.states.m 1 e)))
+    found_first laws p c.requires.ready c.args.cells.now s.node c.requires.filled H.join H.first H.second c.requires.joins s.left s.right s.hours c.requires.hours c.args.goal m first second c.between-share.result n first_same second_same c.between-share.ensures.figure c.between-share.ensures.hours c.between-share.ensures.allowed c.ways-count.ensures i c.hours-test.true hit c.hours.invariant.1 (λ e. c.states.invariant.1 0 (omega (arith, eqb-true c.states.m 1 e)))
