@@ -1,18 +1,11 @@
 -- The join of two rows in memory, from the first index at which both may hold something to the last. Assumes nothing.
-use Rattle.std.proofs.Common.{◌≡◌, ℕ, ◌+◌, ◌-◌, ◌<◌, ◌≤◌, Bool, ◌⊎◌, List, length, get_or, take, drop, Some, None, Option, sym, ap, ◌∙◌, ⊎_elim, arith, length-drop, length-take, get_or-drop, get_or-take}
+use Rattle.std.proofs.Common.{◌≡◌, ℕ, ◌+◌, ◌-◌, ◌<◌, ◌≤◌, Bool, ◌⊎◌, List, length, Some, None, Option, sym, ap, ◌∙◌, ⊎_elim, arith}
 use Rattle.std.proofs.lemmas.List.{get_or_past}
 use Rattle.std.proofs.lemmas.Bool.{cases_lt}
 use Rattle.cells.specs.Tops.{Tops, Split, cell_of, joined_of}
-use Rattle.cells.proofs.Topping.{Below, tops_none, tops_same, held_within, joined_parts}
+use Rattle.cells.proofs.Topping.{Below, tops_same, held_within, joined_parts}
 
 module _ {F : Type 0} {above : F → F → Bool} (plus : F → F → F) (first second : List (Option F)) (mid : F) (rest : ℕ) where
-  -- below the start the second row has ended
-  pub split_start : (i : ℕ) → (i ≡ 0) ⊎ (i + length second ≤ rest + 1) → Tops above (Below (λ k x. joined_of plus mid (cell_of first k) (cell_of second (rest - k)) ≡ Some x) i) None
-  split_start i early = tops_none _ (λ x b.
-      let j = joined_parts plus mid (cell_of first b.0) (cell_of second (rest - b.0)) x b.2 in
-      let lt = held_within second (rest - b.0) j.1 j.3 in
-      ⊎_elim (λ z. omega (arith, b.1)) (λ le. omega (arith, b.1)) early)
-
   -- from the end on the first row has ended, or the rest is used up
   pub split_end : (i : ℕ) (r : Option F) → i ≤ rest + 1 → (length first ≤ i) ⊎ (rest < i) → Tops above (Below (λ k x. joined_of plus mid (cell_of first k) (cell_of second (rest - k)) ≡ Some x) i) r → Tops above (Split plus (cell_of first) (cell_of second) mid 0 rest) r
   split_end i r within late = tops_same
@@ -23,15 +16,6 @@ module _ {F : Type 0} {above : F → F → Bool} (plus : F → F → F) (first s
       let e : rest - s.0 ≡ s.1 = omega (arith, s.4) in
       let lt = held_within first s.0 s.2 s.5 in
       (s.0, ⊎_elim (λ le. omega arith) (λ le. omega (arith, s.4)) late, rw (e, s.5, s.6, s.7)))
-
--- ---- a part of the memory
-
-module _ {X : Type 0} (xs : List X) (a len : ℕ) (within : a + len ≤ length xs) where
-  pub cut_long : length (take (a + len - a) (drop a xs)) ≡ len
-  cut_long = simp (length-take, length-drop) (omega arith)
-
-  pub cut_at : (k : ℕ) (d : X) → k < len → get_or (take (a + len - a) (drop a xs)) k d ≡ get_or xs (a + k) d
-  cut_at k d lt = let h : k < a + len - a = omega arith in rw (get_or-take, get_or-drop)
 
 -- a row that is cut where nothing follows is the whole row
 pub cut_same : {F : Type 0} (row : List (Option F)) (f : ℕ → Option F) (len k : ℕ) → length row ≡ len → ((i : ℕ) → i < len → cell_of row i ≡ f i) → (len ≤ k → f k ≡ None) → cell_of row k ≡ f k

@@ -29,10 +29,6 @@ numbered_join : (N : Net) (n : ℕ) (j : Join) (a b : Tree)
 numbered_join N n Series a b = refl
 numbered_join N n Parallel a b = refl
 
-pub size_join : (j : Join) (a b : Tree) → size (joined j a b) ≡ size a + size b + 1
-size_join Series a b = refl
-size_join Parallel a b = refl
-
 sub_join : (j : Join) (a b : Tree) (v : ℕ) → sub (joined j a b) v ≡ cond (ltb v (size a)) (sub a v) (cond (ltb v (size a + size b)) (sub b (v - size a)) (joined j a b))
 sub_join Series a b v = refl
 sub_join Parallel a b v = refl

@@ -1,6 +1,5 @@
 -- A trace that writes its states one after another. Assumes nothing.
-use Rattle.std.proofs.Common.{◌≡◌, ℕ, Bool, true, false, ◌||◌, sym, ◌∙◌, subst, ⊎_elim}
-use Rattle.std.proofs.lemmas.Bool.{or_parts, cases_Bool, eqb-false}
+use Rattle.std.proofs.Common.{◌≡◌, ℕ, Bool, true, sym, ◌∙◌, subst, ⊎_elim}
 use Rattle.plant.specs.Trees.{Tree, leaf, series, parallel, left, right, inner, station_of, Builds}
 use Rattle.plant.specs.Selections.{Selection}
 use Rattle.cells.specs.Inside.{Site, Scores}
@@ -9,10 +8,6 @@ use Rattle.cells.proofs.Pieces.{shares, left_on, right_on, inner_on, left_not_in
 use Rattle.cells.proofs.Gluing.{Agree, series_has_middle, first_in_series, second_in_series, first_in_parallel, second_in_parallel}
 
 module _ (N : Site) where
-  -- T is S outside the inside of the piece
-  abbrev pub Kept : Tree → Selection → Selection → Type 0
-  Kept t S T = (i : ℕ) → inner N.net t i ≡ false → T i ≡ S i
-
   -- a half's inside and the other half are apart
   pub first_inside : (a b : Tree) (i : ℕ) → Builds N.net (series a b) → inner N.net a i ≡ true → station_of N.net b i ≡ true → ⊥
   first_inside a b i w e f = right_not_inner N.net a w.0 (rw (w.2.share i (inner_on N.net a i e) f) at e)
@@ -25,29 +20,6 @@ module _ (N : Site) where
 
   pub second_inside_parallel : (a b : Tree) (i : ℕ) → Builds N.net (parallel a b) → station_of N.net a i ≡ true → inner N.net b i ≡ true → ⊥
   second_inside_parallel a b i w e f = ⊎_elim (λ is. let q : i ≡ left N.net b = is ∙ w.2.lefts in left_not_inner N.net b w.1 (rw q at f)) (λ is. let q : i ≡ right N.net b = is ∙ w.2.rights in right_not_inner N.net b w.1 (rw q at f)) (shares N.net a b i w.2 e (inner_on N.net b i f))
-
-  not_so : (b : Bool) → (b ≡ true → ⊥) → b ≡ false
-  not_so b f = ⊎_elim (λ e. absurd (f e)) (λ e. e) (cases_Bool b)
-
-  -- writing the second half leaves the first as it is
-  pub second_spares_first : (a b : Tree) (S T : Selection) → Builds N.net (series a b) → Kept b S T → Agree N a S T
-  second_spares_first a b S T w kept i e = sym (kept i (not_so (inner N.net b i) (second_inside a b i w e)))
-
-  pub first_spares_second : (a b : Tree) (S T : Selection) → Builds N.net (series a b) → Kept a S T → Agree N b S T
-  first_spares_second a b S T w kept i e = sym (kept i (not_so (inner N.net a i) (λ f. first_inside a b i w f e)))
-
-  pub parallel_spares_first : (a b : Tree) (S T : Selection) → Builds N.net (parallel a b) → Kept b S T → Agree N a S T
-  parallel_spares_first a b S T w kept i e = sym (kept i (not_so (inner N.net b i) (second_inside_parallel a b i w e)))
-
-  -- the writes of both halves, after that of the middle
-  pub kept_series : (a b : Tree) (S M T U : Selection) → ((i : ℕ) → (right N.net a ≡ i → ⊥) → M i ≡ S i) → Kept a M T → Kept b T U → Kept (series a b) S U
-  kept_series a b S M T U mid ka kb i e =
-      let x = or_parts (inner N.net a i || inner N.net b i) _ e in
-      let y = or_parts (inner N.net a i) (inner N.net b i) x.0 in
-      kb i y.1 ∙ ka i y.0 ∙ mid i (eqb-false (right N.net a) i x.1)
-
-  pub kept_parallel : (a b : Tree) (S T U : Selection) → Kept a S T → Kept b T U → Kept (parallel a b) S U
-  kept_parallel a b S T U ka kb i e = let y = or_parts (inner N.net a i) (inner N.net b i) e in kb i y.1 ∙ ka i y.0
 
   -- a trace depends on the piece's stations alone
   pub same_traces : {F : Type 0} (P : Scores F) (nil : F) (plus : F → F → F) (cells : Cells F) (v : ℕ) (t : Tree) (l r : Bool) (h : ℕ) (S T : Selection) → Builds N.net t → Agree N t S T → Traces nil plus N P cells v t l r h S → Traces nil plus N P cells v t l r h T

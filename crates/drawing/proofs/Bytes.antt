@@ -1,18 +1,17 @@
 -- Characters and their bytes. Assumes nothing.
-use Rattle.std.proofs.Common.{◌≡◌, ℕ, ◌+◌, ◌-◌, ◌*◌, ◌<◌, ◌≤◌, min, Bool, true, false, eqb, leb, List, [], ◌∷◌, length, drop, Some, None, Err, Option, sym, refl, ap, ◌∙◌, subst, arith}
-use Rattle.std.proofs.lemmas.Bool.{eqb-true, ne_eqb, le-leb, leb-true, and_parts, and_from, cond_both, cond-false}
+use Rattle.std.proofs.Common.{◌≡◌, ℕ, ◌+◌, ◌-◌, ◌*◌, ◌<◌, ◌≤◌, min, Bool, true, false, eqb, leb, List, [], ◌∷◌, length, drop, get_or, Some, None, Option, Ok, Err, Result, sym, refl, ap, ◌∙◌, subst, ⊎_elim, arith}
+use Rattle.std.proofs.lemmas.List.{drop_more, drop_all}
+use Rattle.std.proofs.lemmas.Bool.{cases_lt, eqb-true, le-leb, leb-true, and_parts, and_from, cond_both}
+use Rattle.std.specs.Result.{MatchResult, IsErrAnd}
 use Rattle.plant.specs.declared.refusal.Refusal.{Refusal}
 use Rattle.plant.specs.declared.refusal.Part.TheVariants as P
 use Rattle.plant.specs.declared.refusal.Reason.{Reason}
-use Rattle.plant.specs.declared.tree.Join.{Join}
-use Rattle.plant.specs.declared.tree.Join.TheVariants.{Series, Parallel}
 use Rattle.plant.specs.declared.refusal.Reason.TheVariants.{TreeGrammar}
 use Rattle.drawing.specs.declared.mark.Mark.{Mark}
-use Rattle.drawing.specs.declared.mark.Mark.TheVariants.{Open, Comma, Close, Semicolon, Digit, Letter}
 use Rattle.drawing.specs.declared.text.Text.{Text}
 use Rattle.drawing.specs.Marks.{sign, digit, mark_of, first_mark, Fair}
-use Rattle.drawing.specs.Grammar.{Out, good, bad, lit, letter, stop, digits}
-use Rattle.drawing.specs.Reads.{rest, Sound, Ahead, Peeked, next_digit, Faulted, Reads, capped}
+use Rattle.drawing.specs.Grammar.{Out, good, bad, stop, digits}
+use Rattle.drawing.specs.Reads.{rest, Ahead, Peeked, Faulted, Reads, capped}
 
 pub by_bool : {P : Type 0} (b : Bool) → (b ≡ true → P) → (b ≡ false → P) → P
 by_bool true f g = f refl
@@ -43,55 +42,23 @@ ahead_says : (t : Text) (b : ℕ) (r : Option Mark) → Says b r → t.pos < len
 ahead_says t b None w lt e = tt
 ahead_says t b (Some m) w lt e = (lt, e ∙ ap (λ x. x ∷ drop (t.pos + 1) t.src.now) w.0, w.1)
 
--- the next byte, as a character
-pub peeked : (t : Text) (b : ℕ) (r : Option Mark) → r ≡ mark_of b → t.pos < length t.src.now → rest t ≡ b ∷ drop (t.pos + 1) t.src.now → Peeked t r
-peeked t b r h lt e = record { is = h ∙ ap first_mark (sym e); ahead = ahead_says t b r (subst (Says b) (sym h) (mark_says b)) lt e }
+-- the next character, as the bytes to be read show it
+pub peeked : (t : Text) (r : Option Mark) → r ≡ first_mark (rest t) → Peeked t r
+peeked t r h =
+    let s = t.src.now in
+    let b = get_or s t.pos 0 in
+    record {
+      is = h;
+      ahead =
+          ⊎_elim
+          (λ lt. let e = drop_more s t.pos 0 lt in ahead_says t b r (subst (Says b) (sym (h ∙ ap first_mark e)) (mark_says b)) lt e)
+          (λ ge. subst (Ahead t) (sym (h ∙ ap first_mark (drop_all t.pos s ge))) tt)
+          (cases_lt t.pos (length s));
+    }
 
--- the byte of a character has that character
+-- the byte of a digit is one
 pub digit_in : (d : ℕ) → d ≤ 9 → digit (48 + d) ≡ true
 digit_in d h = and_from _ _ (le-leb 48 (48 + d) (omega arith)) (le-leb (48 + d) 57 (omega arith))
-
-sign_digit : (d : ℕ) → d ≤ 9 → mark_of (48 + d) ≡ Some (Digit d)
-sign_digit d h =
-    let a : 48 + d ≡ 40 → ⊥ = omega arith in
-    let b : 48 + d ≡ 44 → ⊥ = omega arith in
-    let c : 48 + d ≡ 41 → ⊥ = omega arith in
-    let e : 48 + d ≡ 59 → ⊥ = omega arith in
-    let f : 48 + d - 48 ≡ d = omega arith in
-    rw (ne_eqb (48 + d) 40 a, ne_eqb (48 + d) 44 b, ne_eqb (48 + d) 41 c, ne_eqb (48 + d) 59 e, digit_in d h, f) refl
-
-pub mark_sign : (m : Mark) → Fair m → mark_of (sign m) ≡ Some m
-mark_sign Open h = refl
-mark_sign Comma h = refl
-mark_sign Close h = refl
-mark_sign Semicolon h = refl
-mark_sign (Digit d) h = sign_digit d h
-mark_sign (Letter Series) h = refl
-mark_sign (Letter Parallel) h = refl
-
--- where another character stands, or none
-pub lit_other : (m : Mark) (s : List ℕ) → Fair m → (first_mark s ≡ Some m → ⊥) → lit m s ≡ bad TreeGrammar s
-lit_other m [] h n = refl
-lit_other m (b ∷ s) h n = cond-false _ _ _ (ne_eqb b (sign m) (λ e. n (ap mark_of e ∙ mark_sign m h)))
-
-pub letter_other : (s : List ℕ) → ((j : Join) → first_mark s ≡ Some (Letter j) → ⊥) → letter s ≡ bad TreeGrammar s
-letter_other [] n = refl
-letter_other (b ∷ s) n =
-    let p : eqb b 115 ≡ false = ne_eqb b 115 (λ e. n Series (ap mark_of e)) in
-    let q : eqb b 112 ≡ false = ne_eqb b 112 (λ e. n Parallel (ap mark_of e)) in
-    rw (p, q) refl
-
-pub digit_other : (s : List ℕ) → ((d : ℕ) → first_mark s ≡ Some (Digit d) → ⊥) → next_digit s ≡ None
-digit_other [] n = refl
-digit_other (b ∷ s) n =
-    cond_both (digit b) (Some (b - 48)) None (λ o. o ≡ None)
-    (λ e.
-    let both = and_parts (leb 48 b) (leb b 57) e in
-    let low = leb-true 48 b both.0 in
-    let high = leb-true b 57 both.1 in
-    let is : b ≡ 48 + (b - 48) = omega arith in
-    absurd (n (b - 48) (ap mark_of is ∙ sign_digit (b - 48) (omega arith))))
-    (λ e. refl)
 
 pub stop_more : (b : ℕ) (s u : List ℕ) → s ≡ b ∷ u → stop s ≡ bad TreeGrammar s
 stop_more b s u e = rw e refl
@@ -103,9 +70,19 @@ faulted o why p src e is le h =
     let r : e.reason ≡ why = ap (λ x. x.reason) is in
     record { told = h ∙ (λ i. bad (sym r i) (drop (sym at i) src)); within = rw at le; part = ap (λ x. x.part) is }
 
+-- the reason of a refusal, with its place
+abbrev pub Placed : {A : Type 0} → Result A Reason → ℕ → Result A Refusal → Type 0
+Placed (Ok x) p r = r ≡ Ok x
+Placed (Err why) p r = (e : Refusal) × (r ≡ Err e) × (e ≡ record { reason = why; part = P.Tree; place = p })
+
+pub placed : {A : Type 0} (Gives : Reason → Refusal → Type 0) (w : Result A Reason) (p : ℕ) (r : Result A Refusal) → MatchResult w (λ x. r ≡ Ok x) (λ why. IsErrAnd r (Gives why)) → ((why : Reason) (e : Refusal) → Gives why e → e ≡ record { reason = why; part = P.Tree; place = p }) → Placed w p r
+placed Gives (Ok x) p r m given = m
+placed Gives (Err why) p (Ok x) m given = absurd m
+placed Gives (Err why) p (Err e) m given = (e, refl, given why e m)
+
 -- the refusal of the byte where the reader stands
-pub faulted_here : {A : Type 0} (f : List ℕ → Out A) (t : Text) (e : Refusal) → Sound t → f (rest t) ≡ bad TreeGrammar (rest t) → e ≡ record { reason = TreeGrammar; part = P.Tree; place = t.pos } → Reads f t t (Err e)
-faulted_here f t e w h is = record { src = refl; sound = w; told = faulted (f (rest t)) TreeGrammar t.pos t.src.now e is w.within h }
+pub faulted_here : {A : Type 0} (f : List ℕ → Out A) (t : Text) (e : Refusal) → f (rest t) ≡ bad TreeGrammar (rest t) → e ≡ record { reason = TreeGrammar; part = P.Tree; place = t.pos } → Reads f t t (Err e)
+faulted_here f t e h is = record { src = refl; told = faulted (f (rest t)) TreeGrammar t.pos t.src.now e is t.within h }
 
 -- digits past the cap do not count
 pub capped_digits : (s : List ℕ) (n m : ℕ) → min n 128 ≡ min m 128 → capped (digits n s) ≡ capped (digits m s)
@@ -121,10 +98,3 @@ digits_more n m d s u e le h =
     let f : 48 + d - 48 ≡ d = omega arith in
     let same : min (n * 10 + d) 128 ≡ min m 128 = omega arith in
     rw (e, digit_in d le, f) (sym (capped_digits u (n * 10 + d) m same))
-
-pub digits_none : (n : ℕ) (s : List ℕ) → next_digit s ≡ None → digits n s ≡ good n s
-digits_none n [] e = refl
-digits_none n (b ∷ s) e =
-    by_bool (digit b)
-    (λ h. let z : ◌≡◌ {A = ℕ} 0 1 = let f = rw h at e in cc in absurd (omega arith))
-    (λ h. rw h refl)

@@ -1,13 +1,14 @@
 -- A whole text, read from a blank sketch. Assumes nothing.
-use Rattle.std.proofs.Common.{◌≡◌, ℕ, ◌<◌, ◌≤◌, Bool, true, false, cond, ◌||◌, eqb, ltb, List, [], ◌∷◌, ◌++◌, length, take, drop, Ok, Err, Decides, sym, ap, ◌∙◌, subst, ⊎_elim, arith}
+use Rattle.std.proofs.Common.{◌≡◌, ℕ, ◌<◌, ◌≤◌, Bool, true, false, cond, ◌||◌, eqb, ltb, List, [], ◌∷◌, ◌++◌, length, drop, Ok, Err, Result, Decides, sym, refl, ap, ◌∙◌, ⊎_elim, arith}
+use Rattle.std.proofs.lemmas.List.{nil_from_length}
 use Rattle.std.proofs.lemmas.Bool.Decides.{same_from_decides}
 use Rattle.std.proofs.lemmas.Bool.{eqb-true, eq-eqb, and_parts, and_from, or_cases, or_left, false≢true}
 use Rattle.plant.specs.declared.refusal.Refusal.{Refusal}
+use Rattle.plant.specs.declared.refusal.Reason.{Reason}
 use Rattle.plant.specs.declared.refusal.Reason.TheVariants.{NotThePlant}
 use Rattle.plant.specs.declared.refusal.Part.TheVariants as P
 use Rattle.plant.specs.Trees.{Net, Tree, left, station_of, uses}
 use Rattle.plant.specs.Nodes.{numbered}
-use Rattle.plant.specs.Tables as tables
 use Rattle.drawing.specs.declared.mark.Mark.TheVariants.{Semicolon}
 use Rattle.drawing.specs.declared.half.Half.{Half}
 use Rattle.drawing.specs.declared.text.Text.{Text}
@@ -16,9 +17,9 @@ use Rattle.drawing.specs.declared.reader.Reader.{Reader}
 use Rattle.drawing.specs.Grammar.{Out, good, bad, then, lit, stop, Lines, with_lines, below, complete, none_named, subtree, ending, whole}
 use Rattle.drawing.specs.Reads.{rest, Faulted, Reads}
 use Rattle.drawing.specs.Halves.{half}
-use Rattle.drawing.specs.Sketches.{net, done, waiting, named_in, Built, Complete, Blank}
+use Rattle.drawing.specs.Sketches.{net, done, waiting, named_in, Built, Complete, Finished, Blank}
 use Rattle.drawing.specs.Readings.{ReadsTree, ReadsWhole}
-use Rattle.drawing.proofs.Bytes.{faulted}
+use Rattle.drawing.proofs.Bytes.{faulted, Placed}
 use Rattle.drawing.proofs.Marking.{get_or-marks}
 use Rattle.drawing.proofs.Meeting.{below_all, below_at}
 
@@ -115,19 +116,25 @@ ended d n before after t u v r h l s e =
     ∙ ap (λ o. then o (λ _ w. cond (complete N n m h.tree) (good h.tree w) (bad NotThePlant w))) s.told
     ∙ ap (λ b. cond b (good h.tree (rest t)) (bad NotThePlant (rest t))) (sym e)
 
-pub whole_not : (d n : ℕ) (before after last : Reader) (t : Text) (u v : Unit {0}) (e : Refusal) → Blank before.sketch → n ≤ 64 → (h : TreeRead d before after) → Reads (lit Semicolon) after.text t (Ok u) → Reads stop t t (Ok v) → ((hs : List Half) (x : Half) → waiting after.sketch ≡ hs ++ x ∷ [] → Decides false (Complete after.sketch n x)) → e ≡ record { reason = NotThePlant; part = P.Tree; place = t.pos } → ReadsWhole d n before last (Err e)
+whole_not : (d n : ℕ) (before after last : Reader) (t : Text) (u v : Unit {0}) (e : Refusal) → Blank before.sketch → n ≤ 64 → (h : TreeRead d before after) → Reads (lit Semicolon) after.text t (Ok u) → Reads stop t t (Ok v) → ((hs : List Half) (x : Half) → waiting after.sketch ≡ hs ++ x ∷ [] → Decides false (Complete after.sketch n x)) → e ≡ record { reason = NotThePlant; part = P.Tree; place = t.pos } → ReadsWhole d n before last (Err e)
 whole_not d n before after last t u v e b few h l s w is =
     let same : t.src.now ≡ before.text.src.now = ap (λ x. x.now) l.src ∙ h.src in
-    faulted _ NotThePlant t.pos before.text.src.now e is (rw (sym same) l.sound.within)
+    faulted _ NotThePlant t.pos before.text.src.now e is (rw (sym same) t.within)
     (ended d n before after t u v false h l s (judged d before after n false b few h w) ∙ ap (λ x. bad NotThePlant (drop t.pos x)) same)
 
-pub whole_good : (d n : ℕ) (before after last : Reader) (t : Text) (u v : Unit {0}) → Blank before.sketch → n ≤ 64 → (h : TreeRead d before after) → Reads (lit Semicolon) after.text t (Ok u) → Reads stop t t (Ok v) → ((hs : List Half) (x : Half) → waiting after.sketch ≡ hs ++ x ∷ [] → Decides true (Complete after.sketch n x)) → last.sketch.nodes ≡ after.sketch.nodes → ReadsWhole d n before last (Ok tt)
+whole_good : (d n : ℕ) (before after last : Reader) (t : Text) (u v : Unit {0}) → Blank before.sketch → n ≤ 64 → (h : TreeRead d before after) → Reads (lit Semicolon) after.text t (Ok u) → Reads stop t t (Ok v) → ((hs : List Half) (x : Half) → waiting after.sketch ≡ hs ++ x ∷ [] → Decides true (Complete after.sketch n x)) → last.sketch.nodes ≡ after.sketch.nodes → ReadsWhole d n before last (Ok tt)
 whole_good d n before after last t u v b few h l s w same =
     let N = net before.sketch in
-    let none : tables.listed before.sketch.nodes ≡ [] = ap (λ k. take k before.sketch.nodes.rows) b.none_done in (
+    let none : before.sketch.nodes.items ≡ [] = nil_from_length before.sketch.nodes.items b.none_done in (
       h.tree,
       rest t,
       ended d n before after t u v true h l s (judged d before after n true b few h w),
-      subst (λ x. tables.Sound x) (sym same) h.built.ready.table,
-      ap (λ x. tables.listed x) same ∙ h.built.nodes ∙ (λ i. none i ++ numbered N (b.none_done i) h.tree),
+      last.sketch.fits,
+      ap (λ x. x.items) same ∙ h.built.nodes ∙ (λ i. none i ++ numbered N (b.none_done i) h.tree),
     )
+
+pub whole_read : (d n : ℕ) (before after last : Reader) (t : Text) (u v : Unit {0}) (w : Result (Unit {0}) Reason) (r : Result (Unit {0}) Refusal) → Blank before.sketch → n ≤ 64 → TreeRead d before after → Reads (lit Semicolon) after.text t (Ok u) → Reads stop t t (Ok v) → Finished n after.sketch w → last.sketch.nodes ≡ after.sketch.nodes → Placed w t.pos r → ReadsWhole d n before last r
+whole_read d n before after last t u v (Ok x) r b few h l s got same is =
+    rw is (whole_good d n before after last t u v b few h l s (λ hs k e. ((λ _. got hs k e), (λ _. refl))) same)
+whole_read d n before after last t u v (Err why) r b few h l s got same is =
+    rw is.1 (whole_not d n before after last t u v is.0 b few h l s (λ hs k e. ((λ z. absurd (false≢true z)), (λ done. absurd (got.1 hs k e done)))) (is.2 ∙ ap (λ x. record { reason = x; part = P.Tree; place = t.pos }) got.0))

@@ -1,11 +1,15 @@
 -- What the halves hold, and when two meet. Assumes nothing.
-use Rattle.std.specs.Prelude.{◌≡◌, ℕ, ◌+◌, ◌-◌, ◌<◌, Bool, true, false, ◌||◌, ◌⊎◌, List, map, length, ◌==◌, slice_index_or}
+use Rattle.std.specs.Prelude.{◌≡◌, ℕ, ◌+◌, ◌-◌, ◌<◌, Bool, true, false, ◌||◌, ◌⊎◌, List, map, length, count_by, ◌==◌, slice_index_or}
 use Rattle.std.specs.List.{range_with_len}
 use Rattle.plant.specs.declared.tree.Join.{Join}
 use Rattle.plant.specs.declared.tree.Join.TheVariants.{Series, Parallel}
 use Rattle.plant.specs.Trees.{Net, Tree, left, right, station_of}
 use Rattle.plant.specs.Nodes.{size}
 use Rattle.drawing.specs.declared.half.Half.{Half}
+
+-- how many are marked
+abbrev pub tally : List Bool → ℕ
+tally xs = count_by (λ b. b) xs
 
 -- the first n are marked
 abbrev pub AllMarked : List Bool → ℕ → Type 0

@@ -11,10 +11,6 @@ use Rattle.drawing.specs.Grammar.{Out, good, bad}
 abbrev pub rest : Text → List ℕ
 rest t = drop t.pos t.src.now
 
-pub record Sound (t : Text) : Type 0 where
-  pub within : t.pos ≤ length t.src.now
-  pub short : length t.src.now ≤ 65535
-
 abbrev pub Ahead : Text → Option Mark → Type 0
 Ahead t None = Unit {0}
 Ahead t (Some m) = (t.pos < length t.src.now) × (rest t ≡ sign m ∷ drop (t.pos + 1) t.src.now) × Fair m
@@ -49,7 +45,6 @@ Told (Err e) o t = Faulted e o t.src.now
 -- the reader went from `before` to `after` as the grammar f does
 pub record Reads {A : Type 0} (f : List ℕ → Out A) (before after : Text) (r : Result A Refusal) : Type 0 where
   pub src : after.src ≡ before.src
-  pub sound : Sound after
   pub told : Told r (f (rest before)) after
 
 -- a number past every line counts as one number

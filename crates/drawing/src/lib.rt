@@ -10,26 +10,31 @@ mod reader;
 mod sketch;
 mod text;
 
+use arrayvec::ArrayVec;
 use half::Half;
 use plant::limits::{MAX_NODES, STACK_ENTRIES};
 use plant::records::Line;
 use plant::refusal::Refusal;
 use plant::stack::Stack;
-use plant::table::Table;
 use plant::tree::Node;
 use reader::Reader;
 use sketch::Sketch;
 use text::Text;
 
-// The nodes of the tree that the text draws, for a plant of so many stations and these lines.
-pub fn read(text: &[u8], stations: usize, lines: &[Line]) -> Result<Table<Node, MAX_NODES>, Refusal>
+// The nodes of the tree that the text draws, for a plant of so many stations and these lines. Bytes, as the reader's own type of a text
+// holds the limit.
+pub fn read(
+    text: &[u8],
+    stations: usize,
+    lines: &[Line],
+) -> Result<ArrayVec<Node, MAX_NODES>, Refusal>
     requires text { length text.now ≤ 65535 }
     requires stations { stations ≤ 64 }
     requires lines { length lines.now ≤ 128 }
     requires joins { Joins stations lines.now }
     ensures { Answers stations lines.now text.now result }
 {
-    let mut waiting = [Half::none(); STACK_ENTRIES];
+    let mut waiting = [Half::default(); STACK_ENTRIES];
     let halves = Stack::new(&mut waiting);
     let sketch = Sketch::new(lines, halves);
     let text = Text { src: text, pos: 0 };
@@ -39,18 +44,14 @@ pub fn read(text: &[u8], stations: usize, lines: &[Line]) -> Result<Table<Node, 
 }
 
 // A text is accepted exactly when it is the writing of a tree that draws the plant, and there is one such tree.
-pub fn accepted_when_written() -> u8
+pub fn accepted_when_written()
     ensures { AcceptedWhenWritten }
-{
-    0
-}
+{}
 
 // A text is refused for a reason at a place exactly when its first fault is that one, with everything before it in order.
-pub fn refused_at_first_fault() -> u8
+pub fn refused_at_first_fault()
     ensures { RefusedAtFirstFault }
-{
-    0
-}
+{}
 
 #[cfg(test)]
 mod tests;

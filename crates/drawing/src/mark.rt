@@ -14,7 +14,7 @@ pub enum Mark {
     Letter(Join),
 }
 
-// What a byte stands for; nothing where no tree's text has it.
+// What a byte stands for; nothing where no tree's text has it. No `TryFrom`: its error would have nothing to say.
 pub fn mark_of(b: u8) -> Option<Mark>
     ensures { result ≡ mark_of b }
 {

@@ -6,43 +6,26 @@ use super::read;
 use plant::records::Line;
 use plant::refusal::Reason;
 
+fn line(from: usize, to: usize) -> Line
+    ensures from { result.from ≡ from }
+    ensures to { result.to ≡ to }
+{
+    Line { from, to, gain: 0 }
+}
+
 fn lines() -> [Line; 4]
     ensures { Joins 4 result }
 {
-    let gain = 0;
-    [
-        Line {
-            from: 0,
-            to: 1,
-            gain,
-        },
-        Line {
-            from: 1,
-            to: 3,
-            gain,
-        },
-        Line {
-            from: 0,
-            to: 2,
-            gain,
-        },
-        Line {
-            from: 2,
-            to: 3,
-            gain,
-        },
-    ]
+    [line(0, 1), line(1, 3), line(0, 2), line(2, 3)]
 }
 
 // The number of nodes, or why the text is refused and where.
 fn judged(text: &[u8]) -> Result<usize, (Reason, u32)>
     requires { length text.now ≤ 65535 }
 {
-    let lines = lines();
-    match read(text, 4, &lines) {
-        Ok(nodes) => Ok(nodes.count),
-        Err(e) => Err((e.reason, e.place)),
-    }
+    read(text, 4, &lines())
+        .map(|nodes| nodes.len())
+        .map_err(|e| (e.reason, e.place))
 }
 
 #[test]

@@ -3,21 +3,25 @@
 
 use links::Links;
 use plan::Plan;
-use plant::records::Hold;
+use plan::pick::Pick;
 use plant::refusal::Reason;
 use random::Random;
-use sample::{Sample, draw};
+use sample::Sample;
 use std::alloc::{AllocError, Global};
-use std::fmt::Write;
-use truth::{Rank, best, has, totals_of};
+use std::fmt;
+use std::num::Saturating;
+use truth::{Best, Ranked, best_of};
 use yardsticks::figures::UrgentGain;
 use yardsticks::money::Money;
 use yardsticks::urgent::UrgentFirst;
-use yardsticks::yardstick::Yardstick;
 
+mod growth;
 mod links;
+mod names;
 mod random;
 mod sample;
+mod stations;
+mod tree;
 mod truth;
 
 const SEED: u64 = 20_261_117;
@@ -26,184 +30,139 @@ const PLANTS: usize = 20_000;
 
 const CELLS: usize = 4_000;
 
+// The largest budget that is tried.
+const MOST_HOURS: u32 = 30;
+
 // What came of the comparisons.
-#[derive(Clone, Copy)]
+#[derive(Clone, Copy, Default)]
 struct Tally {
-    plants: usize,
-    unread: usize,
-    solves: usize,
-    picks: usize,
-    nothing: usize,
-    equals: usize,
-    wrong: usize,
+    plants: Saturating<usize>,
+    unread: Saturating<usize>,
+    solves: Saturating<usize>,
+    picks: Saturating<usize>,
+    nothing: Saturating<usize>,
+    equals: Saturating<usize>,
+    wrong: Saturating<usize>,
 }
 
-fn count(n: &mut usize) {
-    *n = n.saturating_add(1);
-}
-
-fn word(hold: Hold) -> &'static str {
-    match hold {
-        Hold::Free => "free",
-        Hold::Open => "open",
-        Hold::Shut => "shut",
+impl fmt::Display for Tally {
+    fn fmt<W: fmt::Write>(&self, f: &mut fmt::Formatter<W>) -> fmt::Result {
+        writeln!(f, "plants {}", self.plants)?;
+        writeln!(f, "plants not accepted {}", self.unread)?;
+        writeln!(f, "solves {}", self.solves)?;
+        writeln!(f, "picks {}", self.picks)?;
+        writeln!(f, "picks with equals {}", self.equals)?;
+        writeln!(f, "nothing fits {}", self.nothing)?;
+        writeln!(f, "wrong {}", self.wrong)
     }
 }
 
-fn stations(heap: Global, sample: &Sample) -> anyhow::Result<String> {
-    let mut text = String::from_str(heap, "station,hours,gain,urgent,hold\r\n")?;
-    for (k, spot) in sample.spots.as_slice().iter().enumerate() {
-        let hours = spot.hours;
-        let gain = spot.gain;
-        let urgent = if spot.urgent { 1 } else { 0 };
-        let hold = word(spot.hold);
-        write!(text, "{k},{hours},{gain},{urgent},{hold}\r\n")?;
-    }
-    Ok(text)
+// Whether a pick is just what trying every selection finds.
+fn agrees(pick: &Pick<'_>, best: &Best) -> bool {
+    let same = pick
+        .selection()
+        .open
+        .iter()
+        .enumerate()
+        .all(|(k, open)| *open == best.selection.has(k));
+    same && pick.hours() == best.totals.hours && pick.gain() == best.totals.gain
 }
 
-fn lines(heap: Global, sample: &Sample) -> anyhow::Result<String> {
-    let mut text = String::from_str(heap, "line,from,to,gain\r\n")?;
-    for (k, wire) in sample.wires.as_slice().iter().enumerate() {
-        let from = wire.from;
-        let to = wire.to;
-        let gain = wire.gain;
-        write!(text, "{k},{from},{to},{gain}\r\n")?;
-    }
-    Ok(text)
-}
-
-// Whether a solve hands out just what trying every selection finds.
-fn agrees<Y: Yardstick>(
-    plan: &Plan,
-    sample: &Sample,
-    y: &Y,
-    rank: Rank,
-    cells: &mut [Option<Y::Figure>],
-    tally: &mut Tally,
-) -> bool {
-    count(&mut tally.solves);
-    let expected = best(sample, rank, plan.budget());
-    match (plan.solve(y, cells), expected) {
-        (Ok(pick), Some((selection, ties))) => {
-            count(&mut tally.picks);
-            if ties > 0 {
-                count(&mut tally.equals);
-            }
-            let totals = totals_of(sample, selection);
-            let open = pick.selection().open;
-            for k in 0..64 {
-                if open[k] != has(selection, k) {
-                    return false;
+impl Tally {
+    // Solves the plant by a yardstick, and counts what came of it.
+    fn solve<Y: Ranked>(
+        &mut self,
+        plan: &Plan,
+        sample: &Sample,
+        y: &Y,
+        cells: &mut [Option<Y::Figure>],
+    ) {
+        self.solves += 1;
+        let right = match (plan.solve(y, cells), best_of(sample, y, plan.budget())) {
+            (Ok(pick), Some(best)) => {
+                self.picks += 1;
+                if best.ties > 0 {
+                    self.equals += 1;
                 }
+                agrees(&pick, &best)
             }
-            pick.hours() == totals.hours && pick.gain() == totals.gain
-        }
-        (Err(refusal), None) => {
-            count(&mut tally.nothing);
-            refusal.reason.number() == Reason::NothingFits.number()
-        }
-        _ => false,
-    }
-}
-
-// All the hours that the stations can take.
-fn most_hours(sample: &Sample) -> u32 {
-    let mut hours = 0u32;
-    for spot in sample.spots.as_slice() {
-        hours = hours.saturating_add(spot.hours);
-    }
-    hours.min(30)
-}
-
-fn compare(
-    plan: &mut Plan,
-    sample: &Sample,
-    cells: &mut [Option<i64>],
-    urgent_cells: &mut [Option<UrgentGain>],
-    tally: &mut Tally,
-) {
-    for budget in 0..=most_hours(sample) {
-        if plan.set_hours(budget).is_err() {
-            count(&mut tally.wrong);
-        }
-        if !agrees(plan, sample, &Money {}, Rank::Money, cells, tally) {
-            count(&mut tally.wrong);
-        }
-        if !agrees(plan, sample, &Links {}, Rank::Links, cells, tally) {
-            count(&mut tally.wrong);
-        }
-        if !agrees(
-            plan,
-            sample,
-            &UrgentFirst {},
-            Rank::UrgentFirst,
-            urgent_cells,
-            tally,
-        ) {
-            count(&mut tally.wrong);
+            (Err(refusal), None) => {
+                self.nothing += 1;
+                refusal.reason == Reason::NothingFits
+            }
+            _ => false,
+        };
+        if !right {
+            self.wrong += 1;
         }
     }
 }
 
-fn run(heap: Global, seed: u64, plants: usize) -> anyhow::Result<Tally> {
-    let mut tally = Tally {
-        plants: 0,
-        unread: 0,
-        solves: 0,
-        picks: 0,
-        nothing: 0,
-        equals: 0,
-        wrong: 0,
-    };
-    let mut random = Random::new(seed);
-    let mut cells = vec![in heap; None; CELLS]?;
-    let mut urgent_cells = vec![in heap; None; CELLS]?;
-    let mut plan = Plan::blank();
-    for _ in 0..plants {
-        let steps = random.below(12);
-        let sample = draw(heap, &mut random, 8, steps)?;
-        let stations = stations(heap, &sample)?;
-        let lines = lines(heap, &sample)?;
-        count(&mut tally.plants);
-        if plan
+// A planner, the cells that it solves over, and what came of the plants so far.
+#[derive(Drop)]
+struct Bench {
+    plan: Plan,
+    cells: Vec<Option<i64>>,
+    urgent_cells: Vec<Option<UrgentGain>>,
+    tally: Tally,
+}
+
+impl Bench {
+    fn new(heap: Global) -> Result<Bench, AllocError> {
+        Ok(Bench {
+            plan: Plan::blank(),
+            cells: vec![in heap; None; CELLS]?,
+            urgent_cells: vec![in heap; None; CELLS]?,
+            tally: Tally::default(),
+        })
+    }
+
+    // Solves a plant at each budget by each yardstick.
+    fn compare(&mut self, sample: &Sample) {
+        for budget in 0..=sample.hours().min(MOST_HOURS) {
+            if self.plan.set_hours(budget).is_err() {
+                self.tally.wrong += 1;
+            }
+            self.tally
+                .solve(&self.plan, sample, &Money, &mut self.cells);
+            self.tally
+                .solve(&self.plan, sample, &Links, &mut self.cells);
+            self.tally
+                .solve(&self.plan, sample, &UrgentFirst, &mut self.urgent_cells);
+        }
+    }
+
+    fn add(&mut self, heap: Global, sample: &Sample) -> Result<(), AllocError> {
+        let stations = sample.stations(heap)?;
+        let lines = sample.lines(heap)?;
+        self.tally.plants += 1;
+        if self
+            .plan
             .fill(
                 stations.as_bytes(),
                 lines.as_bytes(),
-                sample.tree.as_slice(),
+                sample.tree.as_bytes(),
             )
-            .is_err()
+            .is_ok()
         {
-            count(&mut tally.unread);
-            continue;
+            self.compare(sample);
+        } else {
+            self.tally.unread += 1;
         }
-        compare(
-            &mut plan,
-            &sample,
-            cells.as_mut_slice(),
-            urgent_cells.as_mut_slice(),
-            &mut tally,
-        );
+        Ok(())
     }
-    Ok(tally)
 }
 
 fn main(rt: HostRuntime) -> anyhow::Result<()> {
-    let Tally {
-        plants,
-        unread,
-        solves,
-        picks,
-        nothing,
-        equals,
-        wrong,
-    } = run(rt.alloc(), SEED, PLANTS)?;
-    println!(rt; "plants {plants}")?;
-    println!(rt; "plants not accepted {unread}")?;
-    println!(rt; "solves {solves}")?;
-    println!(rt; "picks {picks}")?;
-    println!(rt; "picks with equals {equals}")?;
-    println!(rt; "nothing fits {nothing}")?;
-    println!(rt; "wrong {wrong}")?;
+    let heap = rt.alloc();
+    let mut random = Random::new(SEED);
+    let mut bench = Bench::new(heap)?;
+    for _ in 0..PLANTS {
+        let steps = random.below(12);
+        let sample = Sample::draw(heap, &mut random, 8, steps)?;
+        bench.add(heap, &sample)?;
+    }
+    let tally = bench.tally;
+    print!(rt; "{tally}")?;
     Ok(())
 }

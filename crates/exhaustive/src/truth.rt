@@ -1,17 +1,15 @@
-// The best list by trying every selection. A selection is a set of bits, one for each station.
+// The best list by trying every selection.
+use crate::links::Links;
 use crate::sample::Sample;
+use crate::stations::Stations;
+use crate::tree::Turn;
 use plant::records::Hold;
 use std::cmp::Ordering;
+use yardsticks::money::Money;
+use yardsticks::urgent::UrgentFirst;
+use yardsticks::yardstick::Yardstick;
 
-// What is ranked first.
-#[derive(Clone, Copy, PartialEq, Eq, Debug)]
-pub enum Rank {
-    Money,
-    UrgentFirst,
-    Links,
-}
-
-#[derive(Clone, Copy)]
+#[derive(Clone, Copy, Default)]
 pub struct Totals {
     pub hours: u32,
     pub gain: i64,
@@ -19,127 +17,143 @@ pub struct Totals {
     pub links: i64,
 }
 
-pub fn has(selection: u64, i: usize) -> bool {
-    i < 64 && selection >> i & 1 == 1
+// A yardstick, and what it ranks first, seen from the totals alone.
+pub trait Ranked: Yardstick {
+    type Rank: Ord + Copy;
+
+    fn rank(&self, totals: &Totals) -> Self::Rank;
 }
 
-fn hours_within(sample: &Sample, selection: u64) -> u32 {
-    let mut hours = 0u32;
-    for (i, spot) in sample.spots.as_slice().iter().enumerate() {
-        if has(selection, i) {
-            hours = hours.saturating_add(spot.hours);
+impl Ranked for Money {
+    type Rank = i64;
+
+    fn rank(&self, totals: &Totals) -> i64 {
+        totals.gain
+    }
+}
+
+impl Ranked for UrgentFirst {
+    type Rank = (i64, i64);
+
+    fn rank(&self, totals: &Totals) -> (i64, i64) {
+        (totals.urgent, totals.gain)
+    }
+}
+
+impl Ranked for Links {
+    type Rank = i64;
+
+    fn rank(&self, totals: &Totals) -> i64 {
+        totals.links
+    }
+}
+
+// The selection to hand out, its totals, and how many others that fit are equal to it in rank and hours.
+#[derive(Clone, Copy)]
+pub struct Best {
+    pub selection: Stations,
+    pub totals: Totals,
+    pub ties: usize,
+}
+
+fn hours_within(sample: &Sample, selection: Stations) -> u32 {
+    sample
+        .spots
+        .iter()
+        .enumerate()
+        .filter(|(k, _)| selection.has(*k))
+        .fold(0, |hours: u32, (_, spot)| hours.saturating_add(spot.hours))
+}
+
+fn totals_of(sample: &Sample, selection: Stations) -> Totals {
+    let mut totals = Totals::default();
+    for (k, spot) in sample.spots.iter().enumerate() {
+        if selection.has(k) {
+            totals.hours = totals.hours.saturating_add(spot.hours);
+            totals.gain = totals.gain.saturating_add(spot.gain);
+            totals.urgent = totals.urgent.saturating_add(i64::from(spot.urgent));
+            totals.links = totals.links.saturating_sub(1);
         }
     }
-    hours
-}
-
-pub fn totals_of(sample: &Sample, selection: u64) -> Totals {
-    let mut gain = 0i64;
-    let mut urgent = 0i64;
-    let mut links = 0i64;
-
-    for (i, spot) in sample.spots.as_slice().iter().enumerate() {
-        if has(selection, i) {
-            gain = gain.saturating_add(spot.gain);
-            links = links.saturating_sub(1);
-
-            if spot.urgent {
-                urgent = urgent.saturating_add(1);
-            }
+    for wire in &sample.wires {
+        if selection.has(wire.from) && selection.has(wire.to) {
+            totals.gain = totals.gain.saturating_add(wire.gain);
+            totals.links = totals.links.saturating_add(1);
         }
     }
-    for wire in sample.wires.as_slice() {
-        if has(selection, wire.from) && has(selection, wire.to) {
-            gain = gain.saturating_add(wire.gain);
-            links = links.saturating_add(1);
-        }
-    }
-    Totals {
-        hours: hours_within(sample, selection),
-        gain,
-        urgent,
-        links,
-    }
+    totals
 }
 
-pub fn fits(sample: &Sample, selection: u64, budget: u32) -> bool {
-    for (i, spot) in sample.spots.as_slice().iter().enumerate() {
-        let fine = match spot.hold {
-            Hold::Free => true,
-            Hold::Open => has(selection, i),
-            Hold::Shut => !has(selection, i),
-        };
-        if !fine {
-            return false;
-        }
-    }
-    hours_within(sample, selection) <= budget
+fn keeps_holds(sample: &Sample, selection: Stations) -> bool {
+    sample.spots.iter().enumerate().all(|(k, spot)| match spot.hold {
+        Hold::Free => true,
+        Hold::Open => selection.has(k),
+        Hold::Shut => !selection.has(k),
+    })
 }
 
-fn by_rank(rank: Rank, a: &Totals, b: &Totals) -> Ordering {
-    match rank {
-        Rank::Money => a.gain.cmp(&b.gain),
-        Rank::UrgentFirst => a.urgent.cmp(&b.urgent).then(a.gain.cmp(&b.gain)),
-        Rank::Links => a.links.cmp(&b.links),
-    }
+// Shut before open.
+fn by_station(station: usize, a: Stations, b: Stations) -> Ordering {
+    a.has(station).cmp(&b.has(station))
 }
 
-// The line-up of equals: the left end shut first, then the right end, then from the root down the middle, and fewer hours inside the
-// first half.
-fn in_line(sample: &Sample, a: u64, b: u64) -> Ordering {
+// The middle shut before open, and fewer hours inside the first half.
+fn by_turn(sample: &Sample, turn: &Turn, a: Stations, b: Stations) -> Ordering {
+    let hours = hours_within(sample, a & turn.inside_first);
+    let middle = match turn.middle {
+        Some(middle) => by_station(middle, a, b),
+        None => Ordering::Equal,
+    };
+    middle.then(hours.cmp(&hours_within(sample, b & turn.inside_first)))
+}
+
+// The line-up of equals: the left end shut first, then the right end, then from the root down.
+fn in_line(sample: &Sample, a: Stations, b: Stations) -> Ordering {
     let last = sample.spots.len().saturating_sub(1);
-    let mut order = has(a, 0)
-        .cmp(&has(b, 0))
-        .then(has(a, last).cmp(&has(b, last)));
-    for turn in sample.turns.as_slice() {
-        if let Some(middle) = turn.middle {
-            order = order.then(has(a, middle).cmp(&has(b, middle)));
+    let ends = by_station(0, a, b).then(by_station(last, a, b));
+    sample.turns.iter().fold(ends, |order, turn| order.then(by_turn(sample, turn, a, b)))
+}
+
+impl Best {
+    fn only(sample: &Sample, selection: Stations) -> Best {
+        Best {
+            selection,
+            totals: totals_of(sample, selection),
+            ties: 0,
         }
-        let first = hours_within(sample, a & turn.inside_first);
-        order = order.then(first.cmp(&hours_within(sample, b & turn.inside_first)));
     }
-    order
-}
 
-// Equal in what is ranked, and in hours.
-pub fn tied(sample: &Sample, rank: Rank, a: u64, b: u64) -> bool {
-    let x = totals_of(sample, a);
-    let y = totals_of(sample, b);
-    by_rank(rank, &x, &y) == Ordering::Equal && x.hours == y.hours
-}
+    fn fits(&self, sample: &Sample, budget: u32) -> bool {
+        keeps_holds(sample, self.selection) && self.totals.hours <= budget
+    }
 
-fn better(sample: &Sample, rank: Rank, a: u64, b: u64) -> bool {
-    let x = totals_of(sample, a);
-    let y = totals_of(sample, b);
-    let order = by_rank(rank, &x, &y)
-        .then(y.hours.cmp(&x.hours))
-        .then(in_line(sample, b, a));
-    order == Ordering::Greater
-}
-
-// The one to hand out, and how many others that fit are equal to it in rank and hours.
-pub fn best(sample: &Sample, rank: Rank, budget: u32) -> Option<(u64, usize)> {
-    let count = sample.spots.len();
-    let all = if count < 64 { 1u64 << count } else { 0 };
-    let mut best: Option<(u64, usize)> = None;
-    for selection in 0..all {
-        if !fits(sample, selection, budget) {
-            continue;
-        }
-        best = match best {
-            None => Some((selection, 0)),
-            Some((old, ties)) => {
-                let same = tied(sample, rank, selection, old);
-                let ties = if same { ties.saturating_add(1) } else { 0 };
-                if better(sample, rank, selection, old) {
-                    Some((selection, ties))
-                } else if same {
-                    Some((old, ties))
+    // The better of two that fit: by rank, then by fewer hours, then by the line-up.
+    fn or<Y: Ranked>(self, sample: &Sample, y: &Y, other: Best) -> Best {
+        let order = y
+            .rank(&other.totals)
+            .cmp(&y.rank(&self.totals))
+            .then(self.totals.hours.cmp(&other.totals.hours));
+        match order {
+            Ordering::Less => self,
+            Ordering::Greater => other,
+            Ordering::Equal => {
+                let first = if in_line(sample, other.selection, self.selection).is_lt() {
+                    other
                 } else {
-                    best
+                    self
+                };
+                Best {
+                    ties: self.ties.saturating_add(1),
+                    ..first
                 }
             }
-        };
+        }
     }
-    best
+}
+
+pub fn best_of<Y: Ranked>(sample: &Sample, y: &Y, budget: u32) -> Option<Best> {
+    Stations::sets(sample.spots.len())
+        .map(|bits| Best::only(sample, Stations(bits)))
+        .filter(|best| best.fits(sample, budget))
+        .reduce(|best, other| best.or(sample, y, other))
 }

@@ -1,12 +1,12 @@
 -- The four rows of a node, one after the other. Assumes nothing.
-use Rattle.std.proofs.Common.{◌≡◌, ℕ, ◌+◌, ◌*◌, ◌<◌, ◌≤◌, min, Bool, true, false, ◌≢◌, List, length, get_or, set, Option, refl, ◌∙◌, subst, ⊎_elim, mul-le-mul_right, add-mul, arith, length-set, get_or-set_other, get_or-set_same}
+use Rattle.std.proofs.Common.{◌≡◌, ℕ, ◌+◌, ◌*◌, ◌<◌, ◌≤◌, min, Bool, true, false, ◌≢◌, List, length, get_or, set, Option, ◌∙◌, subst, ⊎_elim, mul-le-mul_right, add-mul, arith, length-set, get_or-set_other, get_or-set_same}
 use Rattle.std.proofs.lemmas.Bool.{cases_lt}
 use Rattle.plant.specs.declared.records.Station.{Station}
 use Rattle.plant.specs.declared.records.Line.{Line}
 use Rattle.plant.specs.declared.site.Plant.{Plant}
 use Rattle.cells.specs.Inside.{Choice}
 use Rattle.cells.specs.Subtrees.{sub}
-use Rattle.cells.specs.Tables.{bit, place, memory, most, need_of}
+use Rattle.cells.specs.Tables.{bit, place, memory, most}
 use Rattle.cells.specs.Tops.{Tops}
 use Rattle.cells.proofs.Filling.{row_before}
 use Rattle.filling.specs.Sites.{site, scores, tree, Filled, Known, RowFilled, NodesFilled}
@@ -50,9 +50,6 @@ module _ {F : Type 0} {nil : F} {plus : F → F → F} {above : F → F → Bool
               ∙ r2.kept_past k (omega (arith, mul-le-mul_right w le2, add-mul (4 * v + 2 * 0 + 1) 1 w))
               ∙ r1.kept_past k (omega (arith, mul-le-mul_right w le1, add-mul (4 * v + 2 * 0 + 0) 1 w));
         }
-
-  pub nodes_start : (x : List (Option F)) → need_of (length p.lines.now) p.budget ≤ length x → NodesFilled nil plus above f g p x x 0
-  nodes_start x room = record { filled = record { room = room; done = λ u lt. absurd (omega arith) }; kept_past = λ k le. refl }
 
   pub nodes_more : (x y z : List (Option F)) (v : ℕ) → NodesFilled nil plus above f g p x y v → NodesFilled nil plus above f g p y z (v + 1) → NodesFilled nil plus above f g p x z (v + 1)
   nodes_more x y z v a b = record {

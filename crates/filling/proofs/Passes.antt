@@ -1,5 +1,5 @@
 -- Rows that are cut at their reach, and the join through one state and through both. Assumes nothing.
-use Rattle.std.proofs.Common.{◌≡◌, ℕ, ◌+◌, ◌*◌, ◌<◌, ◌≤◌, min, Bool, true, false, cond, ◌⊎◌, List, length, get_or, Some, None, Option, sym, refl, ◌∙◌, subst, inl, inr, ⊎_elim, arith}
+use Rattle.std.proofs.Common.{◌≡◌, ℕ, ◌+◌, ◌*◌, ◌<◌, ◌≤◌, min, Bool, true, false, cond, ◌⊎◌, List, length, get_or, Some, None, Option, sym, refl, ap, ◌∙◌, subst, inl, inr, ⊎_elim, arith}
 use Rattle.plant.specs.declared.records.Station.{Station}
 use Rattle.plant.specs.declared.records.Line.{Line}
 use Rattle.plant.specs.declared.tree.Join.{Join}
@@ -18,22 +18,34 @@ use Rattle.cells.proofs.Topping.{order, some_is, tops_none, tops_same, tops_bett
 use Rattle.cells.proofs.Cells.{leaf_tops}
 use Rattle.cells.specs.Tops.{Order}
 use Rattle.std.proofs.lemmas.Bool.{cond-true, cond-false, eq-eqb, ne_eqb, cases_eq}
+use Rattle.std.proofs.lemmas.Option.{cond_some}
 use Rattle.plant.specs.Records.{line}
 use Rattle.joins.specs.declared.share.Share.{Share}
 use Rattle.joins.specs.Shares.{Joined}
-use Rattle.filling.specs.Sites.{site, scores, tree, middle, Ready, Filled, Known, HalvesAt, Passing, leaf_cell}
+use Rattle.filling.specs.Sites.{site, scores, tree, middle, Filled, Known, HalvesAt, between_share, Passing, leaf_cell}
 use Rattle.filling.proofs.Standing.{modest, few_sub, sub_stands}
 
 by_state : (A : Bool → Type 0) (m : Bool) → A m → A false ⊎ A true
 by_state A true h = inr h
 by_state A false h = inl h
 
-module _ {F : Type 0} {f : Station → F} {g : Line → F} {nil : F} {plus : F → F → F} {above : F → F → Bool} {sz : F → ℕ} (laws : Laws f g nil plus above sz) (p : Plant) (ready : Ready p) (cells : List (Option F)) (v : ℕ) (filled : Filled nil plus above f g p cells v) where
+-- the state m is gone through, and this stands between the halves there
+pub record PassedBy {F : Type 0} (nil : F) (f : Station → F) (g : Line → F) (p : Plant) (j : Join) (mid : ℕ) (m : Bool) (share : Share F) : Type 0 where
+  pub passed : passes (site p) j mid m ≡ true
+  pub figure : share.figure ≡ between_figure nil (scores f g p) j mid m
+  pub hours : share.hours ≡ between_hours (site p) j mid m
+
+pub passed_by : {F : Type 0} (nil : F) (f : Station → F) (g : Line → F) (p : Plant) (j : Join) (mid : ℕ) (m : Bool) (share : Share F) → Some share ≡ between_share nil f g p j mid m → PassedBy nil f g p j mid m share
+passed_by {F} nil f g p j mid m share is =
+    let there = cond_some _ _ share (sym is) in
+    record { passed = there.0; figure = sym (ap (λ (s : Share F). s.figure) there.1); hours = sym (ap (λ (s : Share F). s.hours) there.1) }
+
+module _ {F : Type 0} {f : Station → F} {g : Line → F} {nil : F} {plus : F → F → F} {above : F → F → Bool} {sz : F → ℕ} (laws : Laws f g nil plus above sz) (p : Plant) (cells : List (Option F)) (v : ℕ) (filled : Filled nil plus above f g p cells v) where
   -- past the reach of a node there is nothing
   pub past_reach : (u : ℕ) (l r : Bool) (k : ℕ) → u < v → min p.budget (most (site p) (sub (tree p) u)) < k → k ≤ p.budget → memory (p.budget + 1) cells u l r k ≡ None
   past_reach u l r k lt past le =
       let over : most (site p) (sub (tree p) u) < k = omega arith in
-      tops_absent (Choice nil plus (site p) (scores f g p) (sub (tree p) u) l r k) _ (past_none laws.ops (site p) (scores f g p) (modest p ready laws) (sub (tree p) u) l r k over) (filled.done u lt l r k le)
+      tops_absent (Choice nil plus (site p) (scores f g p) (sub (tree p) u) l r k) _ (past_none laws.ops (site p) (scores f g p) (modest p laws) (sub (tree p) u) l r k over) (filled.done u lt l r k le)
 
   module _ (reach : List ℕ) (known : Known p reach v) where
     pub reach_small : (u : ℕ) → u < v → get_or reach u 0 ≤ p.budget
@@ -53,18 +65,21 @@ module _ {F : Type 0} {f : Station → F} {g : Line → F} {nil : F} {plus : F �
 
     module _ (j : Join) (a b : ℕ) (at : HalvesAt p v j a b) (l r : Bool) (h : ℕ) (le : h ≤ p.budget) where
       few_halves : records (joined j (sub (tree p) a) (sub (tree p) b)) * record_limit ≤ limit
-      few_halves = subst (λ (t : Tree). records t * record_limit ≤ limit) at.tree_is (few_sub p ready v)
+      few_halves = subst (λ (t : Tree). records t * record_limit ≤ limit) at.tree_is (few_sub p v)
 
       halves_stand : Builds (site p).net (joined j (sub (tree p) a) (sub (tree p) b))
-      halves_stand = subst (Builds (site p).net) at.tree_is (sub_stands p ready v)
+      halves_stand = subst (Builds (site p).net) at.tree_is (sub_stands p v)
 
       module _ (m : Bool) (first second : List (Option F)) (share : Share F)
           (first_long : length first ≡ get_or reach a 0 + 1) (first_same : (i : ℕ) → i < get_or reach a 0 + 1 → cell_of first i ≡ cell_of cells (row_start (p.budget + 1) a l (first_right j r m) + i))
           (second_long : length second ≡ get_or reach b 0 + 1) (second_same : (i : ℕ) → i < get_or reach b 0 + 1 → cell_of second i ≡ cell_of cells (row_start (p.budget + 1) b (second_left j l m) r + i))
-          (figure_is : share.figure ≡ between_figure nil (scores f g p) j (middle p a) m) (hours_is : share.hours ≡ between_hours (site p) j (middle p a) m) (allowed_is : share.allowed ≡ passes (site p) j (middle p a) m) where
+          (share_is : Some share ≡ between_share nil f g p j (middle p a) m) where
+        by : PassedBy nil f g p j (middle p a) m share
+        by = passed_by nil f g p j (middle p a) m share share_is
+
         pub through_fair : Fair sz limit (cell_of first) (cell_of second) share.figure
-        through_fair i i' x y e e' = rw figure_is
-            (join_fair laws.ops (site p) (scores f g p) (modest p ready laws) j (sub (tree p) a) (sub (tree p) b) (middle p a) m l (first_right j r m) (second_left j l m) r i i' x y few_halves
+        through_fair i i' x y e e' = rw by.figure
+            (join_fair laws.ops (site p) (scores f g p) (modest p laws) j (sub (tree p) a) (sub (tree p) b) (middle p a) m l (first_right j r m) (second_left j l m) r i i' x y few_halves
             (row_choice first a l (first_right j r m) i x at.first_below first_long first_same e) (row_choice second b (second_left j l m) r i' y at.second_below second_long second_same e'))
 
         pub through_tops : (o : Option F) → Tops above (Joined plus first second share h) o → Tops above (Passing nil plus f g p cells j a b l r h m) o
@@ -76,8 +91,8 @@ module _ {F : Type 0} {f : Station → F} {g : Line → F} {nil : F} {plus : F �
             let mid = between_figure nil (scores f g p) j (middle p a) m in
             let spent = between_hours (site p) j (middle p a) m in
             tops_same
-            (λ x s. (sym allowed_is ∙ s.0, split_same plus (cell_of first) (cell_of second) fm gm share.figure mid share.hours spent h ef eg figure_is hours_is x s.1))
-            (λ x s. (allowed_is ∙ s.0, split_same plus fm gm (cell_of first) (cell_of second) mid share.figure spent share.hours h (λ k lt. sym (ef k lt)) (λ k lt. sym (eg k lt)) (sym figure_is) (sym hours_is) x s.1))
+            (λ x s. (by.passed, split_same plus (cell_of first) (cell_of second) fm gm share.figure mid share.hours spent h ef eg by.figure by.hours x s))
+            (λ x s. split_same plus fm gm (cell_of first) (cell_of second) mid share.figure spent share.hours h (λ k lt. sym (ef k lt)) (λ k lt. sym (eg k lt)) (sym by.figure) (sym by.hours) x s.1)
             t
 
       -- through both states: the join's best
@@ -90,7 +105,7 @@ module _ {F : Type 0} {f : Station → F} {g : Line → F} {nil : F} {plus : F �
           (tops_better (order laws.ops) o o' t t') in
           let here = subst (λ (mid : ℕ). Tops above (Through nil plus (site p) (scores f g p) j mid (memory (p.budget + 1) cells a) (memory (p.budget + 1) cells b) l r h) (better_of above o o')) at.middle_is all in
           subst (λ (t : Tree). Tops above (Choice nil plus (site p) (scores f g p) t l r h) (better_of above o o')) (sym at.tree_is)
-          (join_tops laws.ops (site p) (scores f g p) (modest p ready laws) j (sub (tree p) a) (sub (tree p) b) l r h (memory (p.budget + 1) cells a) (memory (p.budget + 1) cells b) (better_of above o o') halves_stand few_halves
+          (join_tops laws.ops (site p) (scores f g p) (modest p laws) j (sub (tree p) a) (sub (tree p) b) l r h (memory (p.budget + 1) cells a) (memory (p.budget + 1) cells b) (better_of above o o') halves_stand few_halves
           (λ l r i lt. filled.done a at.first_below l r i (omega arith)) (λ l r i lt. filled.done b at.second_below l r i (omega arith)) here)
 
 -- ---- leaves
@@ -102,13 +117,13 @@ leaf_right above laws nil x l r h = ⊎_elim
     (λ n. let is : leaf_cell nil x l r h ≡ None = cond-false _ _ _ (ne_eqb h 0 n) in rw is (tops_none _ (λ z c. n c.0)))
     (cases_eq h 0)
 
-module _ {F : Type 0} {f : Station → F} {g : Line → F} {nil : F} {plus : F → F → F} {above : F → F → Bool} {sz : F → ℕ} (laws : Laws f g nil plus above sz) (p : Plant) (ready : Ready p) where
+module _ {F : Type 0} {f : Station → F} {g : Line → F} {nil : F} {plus : F → F → F} {above : F → F → Bool} {sz : F → ℕ} (laws : Laws f g nil plus above sz) (p : Plant) where
   pub leaf_cells : (v k : ℕ) (l r : Bool) (h : ℕ) (o : Option F) → sub (tree p) v ≡ leaf k → o ≡ leaf_cell nil (g (line p.lines.now k)) l r h → Tops above (Choice nil plus (site p) (scores f g p) (sub (tree p) v) l r h) o
   leaf_cells v k l r h o is e =
-      let stands = subst (Builds (site p).net) is (sub_stands p ready v) in
+      let stands = subst (Builds (site p).net) is (sub_stands p v) in
       rw (e, is) (leaf_tops laws.ops (site p) (scores f g p) k l r h _ stands (leaf_right above (order laws.ops) nil (g (line p.lines.now k)) l r h))
 
   pub past_cells : (v : ℕ) (l r : Bool) (h : ℕ) (reach : ℕ) → reach ≡ min p.budget (most (site p) (sub (tree p) v)) → reach < h → h ≤ p.budget → Tops above (Choice nil plus (site p) (scores f g p) (sub (tree p) v) l r h) None
   past_cells v l r h reach is past le =
       let over : most (site p) (sub (tree p) v) < h = omega arith in
-      tops_none _ (past_none laws.ops (site p) (scores f g p) (modest p ready laws) (sub (tree p) v) l r h over)
+      tops_none _ (past_none laws.ops (site p) (scores f g p) (modest p laws) (sub (tree p) v) l r h over)

@@ -1,4 +1,4 @@
--- What a plant that is ready gives: its counts, its nodes, and the room for their rows. Assumes nothing.
+-- What a plant gives: its counts, its nodes, and the room for their rows. Assumes nothing.
 use Rattle.std.proofs.Common.{◌≡◌, ℕ, ◌+◌, ◌-◌, ◌*◌, ◌<◌, ◌≤◌, min, Bool, true, false, List, length, get_or, Option, sym, refl, ap, ◌∙◌, subst, mul-le-mul_right, arith}
 use Rattle.plant.specs.declared.records.Station.{Station}
 use Rattle.plant.specs.declared.records.Line.{Line}
@@ -19,25 +19,27 @@ use Rattle.std.proofs.lemmas.Bool.{eq-eqb}
 use Rattle.cells.specs.Traces.{first_of, second_of}
 use Rattle.cells.specs.Whole.{Whole}
 use Rattle.cells.proofs.Counting.{size_leaves, whole_leaves}
-use Rattle.cells.proofs.Filling.{row_within, bit_small, done_kept}
+use Rattle.cells.proofs.Filling.{row_within, done_kept}
 use Rattle.cells.proofs.Leaves.{draws_whole, scores_modest, ends_within, inner_within}
 use Rattle.cells.proofs.Pieces.{left_on, right_on}
 use Rattle.cells.proofs.Root.{whole_records}
 use Rattle.cells.proofs.Subtrees.{Place, at_leaf, at_join, place, numbered_length, sub_builds, sub_records, sub_lines, sub_last, size_pos as pos_size}
-use Rattle.filling.specs.Sites.{site, scores, tree, middle, Ready, Filled, Known, HalvesAt}
+use Rattle.yardsticks.specs.declared.yardstick.Yardstick.{Ghosts}
+use Rattle.filling.specs.declared.joint.Joint.{Joint}
+use Rattle.filling.specs.Sites.{site, scores, tree, middle, Filled, JoinAt, HalvesAt}
 
-module _ (p : Plant) (ready : Ready p) where
+module _ (p : Plant) where
   pub whole : Whole (site p) (length p.stations.now) (length p.lines.now) (tree p)
-  whole = draws_whole (site p) (length p.stations.now) (length p.lines.now) (tree p) ready.plant.drawn.draws
+  whole = draws_whole (site p) (length p.stations.now) (length p.lines.now) (tree p) p.drawn.drawn.draws
 
   pub node_count : length p.nodes.now ≡ size (tree p)
-  node_count = ap length ready.plant.drawn.ordered ∙ numbered_length (site p).net 0 (tree p)
+  node_count = ap length p.drawn.drawn.ordered ∙ numbered_length (site p).net 0 (tree p)
 
   pub line_count : size (tree p) + 1 ≡ 2 * length p.lines.now
   line_count = omega (arith, size_leaves (tree p), whole_leaves (site p) (length p.stations.now) (length p.lines.now) (tree p) whole)
 
   pub few_nodes : length p.nodes.now ≤ 255
-  few_nodes = omega (arith, node_count, line_count, ready.plant.few_lines)
+  few_nodes = omega (arith, node_count, line_count, p.drawn.few_lines)
 
   pub need_is : need_of (length p.lines.now) p.budget ≡ length p.nodes.now * 4 * (p.budget + 1)
   need_is = let e : 2 * length p.lines.now - 1 ≡ length p.nodes.now = omega (arith, node_count, line_count) in ap (λ (n : ℕ). n * 4 * (p.budget + 1)) e
@@ -48,10 +50,10 @@ module _ (p : Plant) (ready : Ready p) where
 
   -- ---- nodes
   pub node_is : (v : ℕ) → get_or p.nodes.now v no_node ≡ get_or (numbered (site p).net 0 (tree p)) v no_node
-  node_is v = ap (λ (ns : List Node). get_or ns v no_node) ready.plant.drawn.ordered
+  node_is v = ap (λ (ns : List Node). get_or ns v no_node) p.drawn.drawn.ordered
 
   lines_in : (v k : ℕ) → line_of (sub (tree p) v) k ≡ true → ((site p).net.from k < length p.stations.now) × ((site p).net.to k < length p.stations.now)
-  lines_in v k e = ready.plant.drawn.draws.lines_within k (sub_lines (length p.lines.now) (tree p) v whole.lines_within k e)
+  lines_in v k e = p.drawn.drawn.draws.lines_within k (sub_lines (length p.lines.now) (tree p) v whole.lines_within k e)
 
   pub ends_in : (v : ℕ) → (left (site p).net (sub (tree p) v) < length p.stations.now) × (right (site p).net (sub (tree p) v) < length p.stations.now)
   ends_in v = ends_within (site p) (sub (tree p) v) (length p.stations.now) (lines_in v)
@@ -103,8 +105,8 @@ module _ (p : Plant) (ready : Ready p) where
         middle_in = omega (arith, (node_ends a (omega arith)).1, (ends_in a).1);
       }
 
-  pub join_at : (v : ℕ) (j : Join) (a b : ℕ) → v < length p.nodes.now → (get_or p.nodes.now v no_node).shape ≡ S.Join j a b → HalvesAt p v j a b
-  join_at v j a b lt is = join_here v j a b lt (place (site p).net 0 (tree p) v (omega (arith, node_count))) is
+  pub join_at : (v : ℕ) (j : Join) (a b : ℕ) → JoinAt p v j a b → HalvesAt p v j a b
+  join_at v j a b at = let lt = at.0 in join_here v j a b lt (place (site p).net 0 (tree p) v (omega (arith, node_count))) at.1
 
   -- ---- the root
   pub some_nodes : 0 < length p.nodes.now
@@ -123,7 +125,7 @@ module _ (p : Plant) (ready : Ready p) where
 
   -- ---- sizes
   pub few_records : records (tree p) * record_limit ≤ limit
-  few_records = omega (arith, whole_records (site p) (tree p) (length p.stations.now) (length p.lines.now) whole, ready.plant.few_stations, ready.plant.few_lines)
+  few_records = omega (arith, whole_records (site p) (tree p) (length p.stations.now) (length p.lines.now) whole, p.drawn.few_stations, p.drawn.few_lines)
 
   pub few_sub : (v : ℕ) → records (sub (tree p) v) * record_limit ≤ limit
   few_sub v = omega (arith, few_records, sub_records (records (tree p)) (tree p) v (omega arith))
@@ -132,13 +134,14 @@ module _ (p : Plant) (ready : Ready p) where
   sub_stands v = sub_builds (site p).net (tree p) v whole.builds
 
   pub modest : {F : Type 0} {f : Station → F} {g : Line → F} {nil : F} {plus : F → F → F} {above : F → F → Bool} {sz : F → ℕ} → Laws f g nil plus above sz → Modest sz record_limit (scores f g p)
-  modest laws = scores_modest laws p.stations.now p.lines.now ready.plant.stations ready.plant.lines
+  modest laws = scores_modest laws p.stations.now p.lines.now p.drawn.stations p.drawn.lines
 
   pub leaf_in : (v k : ℕ) → sub (tree p) v ≡ leaf k → k < length p.lines.now
   leaf_in v k is = sub_lines (length p.lines.now) (tree p) v whole.lines_within k (subst (λ (t : Tree). line_of t k ≡ true) (sym is) (eq-eqb k k refl))
 
-pub known_less : (p : Plant) (reach : List ℕ) (v : ℕ) → Known p reach (v + 1) → Known p reach v
-known_less p reach v known = record { long = known.long; is = λ u lt. known.is u (omega arith) }
+-- the halves of a cell of a join
+pub joint_at : {Y F : Type 0} {y : Ghosts Y F} (c : Joint Y F y) → HalvesAt c.tables.now.plant.now c.spot.node c.join c.first c.second
+joint_at c = join_at c.tables.now.plant.now c.spot.node c.join c.first c.second c.stands
 
 most_join : (N : Site) (j : Join) (a b : Tree) → most N (joined j a b) ≡ most N a + most N b + between_hours N j (right N.net a) true
 most_join N Series a b = refl
@@ -151,12 +154,6 @@ reach_join p v j a b x y z r at ex ey ez er =
     let e = ap (most (site p)) at.tree_is ∙ most_join (site p) j (sub (tree p) a) (sub (tree p) b) in
     let f = ap (λ (mid : ℕ). between_hours (site p) j mid true) at.middle_is in
     omega arith
-
--- rows begin at small numbers
-pub row_small : (w v : ℕ) (l r : Bool) → w ≤ 1001 → v < 255 → row_start w v l r ≤ 1020019
-row_small w v l r lw lv =
-    let le : 4 * v + 2 * bit l + bit r ≤ 1019 = omega (arith, bit_small l, bit_small r) in
-    omega (arith, mul-le-mul_right w le)
 
 -- what was filled stays so while later rows are written
 pub filled_kept : {F : Type 0} {nil : F} {plus : F → F → F} {above : F → F → Bool} {f : Station → F} {g : Line → F} (p : Plant) (xs ys : List (Option F)) (v : ℕ) (l r : Bool) → length ys ≡ length xs

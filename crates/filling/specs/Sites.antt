@@ -4,8 +4,8 @@ use Rattle.plant.specs.declared.records.Station.{Station}
 use Rattle.plant.specs.declared.records.Line.{Line}
 use Rattle.plant.specs.declared.tree.Join.{Join}
 use Rattle.plant.specs.declared.site.Plant.{Plant}
-use Rattle.plant.specs.Nodes.{IsPlant, tree_of, no_node, joined}
-use Rattle.plant.specs.Records.{max_hours}
+use Rattle.plant.specs.declared.tree.Shape.TheVariants as S
+use Rattle.plant.specs.Nodes.{tree_of, no_node, joined}
 use Rattle.plant.specs.Trees.{Tree, right}
 use Rattle.cells.specs.Traces.{first_of, second_of}
 use Rattle.cells.specs.Inside.{Site, Scores, site_of, scores_of, Choice}
@@ -13,6 +13,7 @@ use Rattle.cells.specs.Joins.{first_right, second_left, passes, between_figure, 
 use Rattle.cells.specs.Subtrees.{sub}
 use Rattle.cells.specs.Tables.{Done, Reached, memory, need_of, row_start}
 use Rattle.cells.specs.Tops.{Tops, Split, cell_of}
+use Rattle.joins.specs.declared.share.Share.{Share}
 
 abbrev pub site : Plant → Site
 site p = site_of p.stations.now p.lines.now
@@ -23,14 +24,13 @@ scores f g p = scores_of f g p.stations.now p.lines.now
 abbrev pub tree : Plant → Tree
 tree p = tree_of p.nodes.now
 
--- a plant of these records and this tree, and a budget in range
-pub record Ready (p : Plant) : Type 0 where
-  pub plant : IsPlant p.stations.now p.lines.now p.nodes.now
-  pub budget : p.budget ≤ max_hours
+-- there is room for the rows of all nodes
+abbrev pub Room : {F : Type 0} → Plant → List (Option F) → Type 0
+Room p cells = need_of (length p.lines.now) p.budget ≤ length cells
 
 -- the nodes below v are filled, and there is room for all
 pub record Filled {F : Type 0} (nil : F) (plus : F → F → F) (above : F → F → Bool) (f : Station → F) (g : Line → F) (p : Plant) (cells : List (Option F)) (v : ℕ) : Type 0 where
-  pub room : need_of (length p.lines.now) p.budget ≤ length cells
+  pub room : Room p cells
   pub done : Done nil plus above (site p) (scores f g p) (tree p) p.budget cells v
 
 -- the reach of the nodes below v is known
@@ -42,7 +42,11 @@ pub record Known (p : Plant) (reach : List ℕ) (v : ℕ) : Type 0 where
 abbrev pub middle : Plant → ℕ → ℕ
 middle p a = (slice_index_or p.nodes.now a no_node).right
 
--- the node v is a join of the kind j, with the halves a and b
+-- so the node v stands in the plant: as a join of the kind j, with the halves a and b
+abbrev pub JoinAt : Plant → ℕ → Join → ℕ → ℕ → Type 0
+JoinAt p v j a b = (v < length p.nodes.now) × ((slice_index_or p.nodes.now v no_node).shape ≡ S.Join j a b)
+
+-- and so the tree: the node v is a join of the kind j, with the halves a and b
 pub record HalvesAt (p : Plant) (v : ℕ) (j : Join) (a b : ℕ) : Type 0 where
   pub few : v < 255
   pub within : v < length p.nodes.now
@@ -53,6 +57,10 @@ pub record HalvesAt (p : Plant) (v : ℕ) (j : Join) (a b : ℕ) : Type 0 where
   pub second_is : b ≡ second_of v
   pub middle_is : middle p a ≡ right (site p).net (sub (tree p) a)
   pub middle_in : middle p a < length p.stations.now
+
+-- what stands between the halves of a join in the state m of the middle, where that is gone through
+abbrev pub between_share : {F : Type 0} → F → (Station → F) → (Line → F) → Plant → Join → ℕ → Bool → Option (Share F)
+between_share nil f g p j mid m = cond (passes (site p) j mid m) (Some (record { figure = between_figure nil (scores f g p) j mid m; hours = between_hours (site p) j mid m })) None
 
 -- x is a sum of a cell of each half and what stands between them, in the state m of the middle
 abbrev pub Passing : {F : Type 0} → F → (F → F → F) → (Station → F) → (Line → F) → Plant → List (Option F) → Join → ℕ → ℕ → Bool → Bool → ℕ → Bool → F → Type 0

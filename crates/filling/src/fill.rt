@@ -1,233 +1,125 @@
 // Filling the tables, node by node in the order of their numbers.
-ghost use Rattle.std.specs.Prelude.{◌≡◌, ◌+◌, ◌-◌, ◌<◌, ◌≤◌, min, true, false, length, Some, None, slice_index_or};
-ghost use Rattle.plant.specs.Nodes.{no_node};
+ghost use Rattle.std.specs.Prelude.{◌≡◌, ◌+◌, ◌<◌, ◌≤◌, min, true, length};
 ghost use Rattle.plant.specs.Records.{line as line_at};
-ghost use Rattle.cells.specs.Inside.{Choice};
-ghost use Rattle.cells.specs.Joins.{first_right, second_left, passes, between_figure, between_hours};
+ghost use Rattle.cells.specs.Joins.{between_hours};
 ghost use Rattle.cells.specs.Subtrees.{sub};
-ghost use Rattle.cells.specs.Tables.{most, need_of};
-ghost use Rattle.cells.specs.Tops.{Tops};
-ghost use Rattle.filling.specs.Sites.{site, scores, tree, Ready, Filled, Known, HalvesAt, Passing, middle, leaf_cell, RowFilled, NodesFilled};
+ghost use Rattle.cells.specs.Tables.{most};
+ghost use Rattle.filling.specs.Sites.{site, tree, Room, Known, middle, leaf_cell};
+ghost use Rattle.filling.specs.Tabled.{FilledBelow, BestAt, BestThrough, Begun, FillsRow, FillsNodes};
 
-use joins::cell::{Cell, Spot, put_cell, row_begin, row_of};
-use joins::joins::{best_split, better, share_of};
-use joins::share::Share;
+use crate::joint::Joint;
+use crate::tables::Tables;
+use joins::cell::{Cell, Spot, put_cell};
+use joins::joins::{best_split, better};
+use plant::limits::MAX_NODES;
 use plant::site::Plant;
 use plant::tree::{Join, Shape};
 use yardsticks::yardstick::Yardstick;
 
-// What stands between the halves of a join, in a state of the middle. A parallel join has no middle: it is gone through once.
-pub fn between<Y: Yardstick>(
-    plant: &Plant<'_>,
-    y: &Y,
-    join: Join,
-    middle: usize,
-    opened: bool,
-) -> Share<Y::Figure>
-    requires ready { Ready plant.now }
-    requires within { middle < length plant.now.stations.now }
-    ensures figure { result.figure ≡ between_figure Y.Yardstick.nil (scores Y.Yardstick.station Y.Yardstick.line plant.now) join middle opened }
-    ensures hours { result.hours ≡ between_hours (site plant.now) join middle opened }
-    ensures allowed { result.allowed ≡ passes (site plant.now) join middle opened }
+// The best of a join's choices through one state of the middle. Past its reach the row of a half is empty.
+// What is filled and known stands in clauses, here and below: it names the choices, so no type can hold it.
+fn through<Y: Yardstick>(joint: &Joint<'_, Y>, reach: &[usize], opened: bool) -> Cell<Y::Figure>
+    requires filled { FilledBelow joint.now.tables.now joint.now.spot.node }
+    requires known { Known joint.now.tables.now.plant.now reach.now joint.now.spot.node }
+    ensures { BestThrough joint.now opened result }
 {
-    match join {
-        Join::Series => share_of(y, &plant.stations[middle], opened),
-        Join::Parallel => Share {
-            figure: y.zero(),
-            hours: 0,
-            allowed: !opened,
-        },
-    }
-}
-
-// The states of the two ends where the halves of a join meet, in a state of the middle.
-pub fn first_right(join: Join, right: bool, opened: bool) -> bool
-    ensures { result ≡ first_right join right opened }
-{
-    match join {
-        Join::Series => opened,
-        Join::Parallel => right,
-    }
-}
-
-pub fn second_left(join: Join, left: bool, opened: bool) -> bool
-    ensures { result ≡ second_left join left opened }
-{
-    match join {
-        Join::Series => opened,
-        Join::Parallel => left,
-    }
-}
-
-pub fn shape_at(plant: &Plant<'_>, node: usize) -> Shape
-    requires { node < length plant.now.nodes.now }
-    ensures { result ≡ (slice_index_or plant.now.nodes.now node no_node).shape }
-{
-    plant.nodes[node].shape
-}
-
-// The two halves of a join, by their numbers.
-#[derive(Clone, Copy)]
-pub struct Halves {
-    pub join: Join,
-    pub first: usize,
-    pub second: usize,
-}
-
-// The best through one state of the middle.
-fn through<Y: Yardstick>(
-    plant: &Plant<'_>,
-    y: &Y,
-    cells: &[Cell<Y::Figure>],
-    reach: &[usize],
-    halves: Halves,
-    spot: Spot,
-    opened: bool,
-) -> Cell<Y::Figure>
-    requires ready { Ready plant.now }
-    requires joins { HalvesAt plant.now spot.node halves.join halves.first halves.second }
-    requires filled { Filled Y.Yardstick.nil Y.Yardstick.plus Y.Yardstick.above Y.Yardstick.station Y.Yardstick.line plant.now cells.now spot.node }
-    requires known { Known plant.now reach.now spot.node }
-    requires hours { spot.hours ≤ plant.now.budget }
-    ensures { Tops Y.Yardstick.above (Passing Y.Yardstick.nil Y.Yardstick.plus Y.Yardstick.station Y.Yardstick.line plant.now cells.now halves.join halves.first halves.second spot.left spot.right spot.hours opened) result }
-{
-    let width = plant.budget as usize + 1;
-    let first = row_of(
-        cells,
-        width,
-        halves.first,
-        spot.left,
-        first_right(halves.join, spot.right, opened),
-        reach[halves.first] + 1,
-    );
-    let second = row_of(
-        cells,
-        width,
-        halves.second,
-        second_left(halves.join, spot.left, opened),
-        spot.right,
-        reach[halves.second] + 1,
-    );
-    let middle = plant.nodes[halves.first].right;
-    let share = between(plant, y, halves.join, middle, opened);
-    best_split(y, first, second, &share, spot.hours)
+    let share = joint.between(opened)?;
+    let tables = joint.tables;
+    let first = tables.row(joint.first_spot(opened, reach[joint.first]));
+    let second = tables.row(joint.second_spot(opened, reach[joint.second]));
+    best_split(tables.y, first, second, &share, joint.spot.hours)
 }
 
 // The best of a join's choices: through either state of the middle.
-fn join_cell<Y: Yardstick>(
-    plant: &Plant<'_>,
-    y: &Y,
-    cells: &[Cell<Y::Figure>],
-    reach: &[usize],
-    halves: Halves,
-    spot: Spot,
-) -> Cell<Y::Figure>
-    requires ready { Ready plant.now }
-    requires joins { HalvesAt plant.now spot.node halves.join halves.first halves.second }
-    requires filled { Filled Y.Yardstick.nil Y.Yardstick.plus Y.Yardstick.above Y.Yardstick.station Y.Yardstick.line plant.now cells.now spot.node }
-    requires known { Known plant.now reach.now spot.node }
-    requires hours { spot.hours ≤ plant.now.budget }
-    ensures { Tops Y.Yardstick.above (Choice Y.Yardstick.nil Y.Yardstick.plus (site plant.now) (scores Y.Yardstick.station Y.Yardstick.line plant.now) (sub (tree plant.now) spot.node) spot.left spot.right spot.hours) result }
+fn join_cell<Y: Yardstick>(joint: &Joint<'_, Y>, reach: &[usize]) -> Cell<Y::Figure>
+    requires filled { FilledBelow joint.now.tables.now joint.now.spot.node }
+    requires known { Known joint.now.tables.now.plant.now reach.now joint.now.spot.node }
+    ensures { BestAt Y.Yardstick joint.now.tables.now.plant.now joint.now.spot result }
 {
-    let shut = through(plant, y, cells, reach, halves, spot, false);
-    let open = through(plant, y, cells, reach, halves, spot, true);
-    better(y, shut, open)
+    let shut = through(joint, reach, false);
+    let open = through(joint, reach, true);
+    better(joint.tables.y, shut, open)
 }
 
 // The line's figure where both of its ends are open. A line has no inner stations, so it takes no hours.
-fn leaf_cell<Y: Yardstick>(plant: &Plant<'_>, y: &Y, line: usize, spot: Spot) -> Cell<Y::Figure>
-    requires ready { Ready plant.now }
-    requires within { line < length plant.now.lines.now }
-    ensures { result ≡ leaf_cell Y.Yardstick.nil (Y.Yardstick.line (line_at plant.now.lines.now line)) spot.left spot.right spot.hours }
+fn leaf_cell<Y: Yardstick>(
+    tables: &Tables<'_, '_, '_, Y>,
+    line: usize,
+    spot: Spot,
+) -> Cell<Y::Figure>
+    requires { line < length tables.now.plant.now.lines.now }
+    ensures { result ≡ leaf_cell Y.Yardstick.nil (Y.Yardstick.line (line_at tables.now.plant.now.lines.now line)) spot.left spot.right spot.hours }
 {
     if spot.hours > 0 {
         return None;
     }
     if spot.left && spot.right {
-        Some(y.of_line(&plant.lines[line]))
+        Some(tables.y.of_line(&tables.plant.lines[line]))
     } else {
-        Some(y.zero())
+        Some(tables.y.zero())
     }
 }
 
 // The best of a node's choices.
 fn cell_at<Y: Yardstick>(
-    plant: &Plant<'_>,
-    y: &Y,
-    cells: &[Cell<Y::Figure>],
+    tables: &Tables<'_, '_, '_, Y>,
     reach: &[usize],
     spot: Spot,
 ) -> Cell<Y::Figure>
-    requires ready { Ready plant.now }
-    requires within { spot.node < length plant.now.nodes.now }
-    requires filled { Filled Y.Yardstick.nil Y.Yardstick.plus Y.Yardstick.above Y.Yardstick.station Y.Yardstick.line plant.now cells.now spot.node }
-    requires known { Known plant.now reach.now (spot.node + 1) }
-    requires hours { spot.hours ≤ plant.now.budget }
-    ensures { Tops Y.Yardstick.above (Choice Y.Yardstick.nil Y.Yardstick.plus (site plant.now) (scores Y.Yardstick.station Y.Yardstick.line plant.now) (sub (tree plant.now) spot.node) spot.left spot.right spot.hours) result }
+    requires within { spot.node < length tables.now.plant.now.nodes.now }
+    requires filled { FilledBelow tables.now spot.node }
+    requires known { Known tables.now.plant.now reach.now (spot.node + 1) }
+    requires hours { spot.hours ≤ tables.now.plant.now.budget }
+    ensures { BestAt Y.Yardstick tables.now.plant.now spot result }
 {
     if spot.hours > reach[spot.node] {
         return None;
     }
-    match shape_at(plant, spot.node) {
-        Shape::Leaf(line) => leaf_cell(plant, y, line, spot),
+    match tables.plant.nodes[spot.node].shape {
+        Shape::Leaf(line) => leaf_cell(tables, line, spot),
         Shape::Join(join, first, second) => {
-            let halves = Halves {
+            let joint = Joint {
+                tables,
+                spot,
                 join,
                 first,
                 second,
             };
-            join_cell(plant, y, cells, reach, halves, spot)
+            join_cell(&joint, reach)
         }
     }
 }
 
-fn middle_hours(plant: &Plant<'_>, halves: Halves) -> usize
-    requires first { halves.first < length plant.now.nodes.now }
-    requires within { middle plant.now halves.first < length plant.now.stations.now }
-    ensures { result ≡ between_hours (site plant.now) halves.join (middle plant.now halves.first) true }
+fn middle_hours(plant: &Plant<'_>, join: Join, first: usize) -> usize
+    requires first { first < length plant.now.nodes.now }
+    requires within { middle plant.now first < length plant.now.stations.now }
+    ensures value { result ≡ between_hours (site plant.now) join (middle plant.now first) true }
+    ensures small { result ≤ 1000 }
 {
-    match halves.join {
-        Join::Series => plant.stations[plant.nodes[halves.first].right].hours as usize,
+    match join {
+        Join::Series => plant.stations[plant.nodes[first].right].hours as usize,
         Join::Parallel => 0,
     }
 }
 
-// The hours of all inner stations of a join, as far as the budget goes.
-fn join_reach(plant: &Plant<'_>, reach: &[usize], halves: Halves, node: usize) -> usize
-    requires ready { Ready plant.now }
-    requires joins { HalvesAt plant.now node halves.join halves.first halves.second }
-    requires known { Known plant.now reach.now node }
-    ensures { result ≡ min plant.now.budget (most (site plant.now) (sub (tree plant.now) node)) }
-{
-    let inside = reach[halves.first] + reach[halves.second];
-    let hours = inside + middle_hours(plant, halves);
-    let budget = plant.budget as usize;
-    if hours < budget { hours } else { budget }
-}
-
-// The same for any node: past its reach its rows are empty.
+// The hours of all inner stations of a node, as far as the budget goes: past this reach its rows are empty.
 fn reach_of(plant: &Plant<'_>, reach: &[usize], node: usize) -> usize
-    requires ready { Ready plant.now }
     requires within { node < length plant.now.nodes.now }
     requires known { Known plant.now reach.now node }
     ensures { result ≡ min plant.now.budget (most (site plant.now) (sub (tree plant.now) node)) }
 {
-    match shape_at(plant, node) {
+    match plant.nodes[node].shape {
         Shape::Leaf(_) => 0,
         Shape::Join(join, first, second) => {
-            let halves = Halves {
-                join,
-                first,
-                second,
-            };
-            join_reach(plant, reach, halves, node)
+            let hours = reach[first] + reach[second] + middle_hours(plant, join, first);
+            hours.min(plant.budget as usize)
         }
     }
 }
 
-// Fills the row of a node and two states of its ends.
-fn fill_row<Y: Yardstick>(
-    plant: &Plant<'_>,
+// Fills the row of a node and two states of its ends. The cells are lent to be written here, so they come apart from the tables to be read.
+fn fill_row<'p, Y: Yardstick>(
+    plant: &'p Plant<'p>,
     y: &Y,
     cells: &mut [Cell<Y::Figure>],
     reach: &[usize],
@@ -235,14 +127,12 @@ fn fill_row<Y: Yardstick>(
     left: bool,
     right: bool,
 )
-    requires ready { Ready plant.now }
     requires within { node < length plant.now.nodes.now }
-    requires filled { Filled Y.Yardstick.nil Y.Yardstick.plus Y.Yardstick.above Y.Yardstick.station Y.Yardstick.line plant.now cells.old node }
+    requires filled { Begun Y.Yardstick plant.now cells.old node }
     requires known { Known plant.now reach.now (node + 1) }
-    ensures { RowFilled Y.Yardstick.nil Y.Yardstick.plus Y.Yardstick.above Y.Yardstick.station Y.Yardstick.line plant.now cells.old cells.new node left right }
+    ensures { FillsRow Y.Yardstick plant.now cells.old cells.new node left right }
 {
     let width = plant.budget as usize + 1;
-    let begin = row_begin(width, node, left, right);
     for hours in 0..width {
         let spot = Spot {
             node,
@@ -250,24 +140,24 @@ fn fill_row<Y: Yardstick>(
             right,
             hours,
         };
-        let cell = cell_at(plant, y, cells, reach, spot);
-        put_cell(cells, begin + hours, cell);
+        let tables = Tables { plant, y, cells };
+        let cell = cell_at(&tables, reach, spot);
+        put_cell(cells, spot.place(width), cell);
     }
 }
 
-// Fills the four rows of a node.
-fn fill_node<Y: Yardstick>(
-    plant: &Plant<'_>,
+// Fills the four rows of a node: four calls, since two loops over the states would be no plainer.
+fn fill_node<'p, Y: Yardstick>(
+    plant: &'p Plant<'p>,
     y: &Y,
     cells: &mut [Cell<Y::Figure>],
     reach: &[usize],
     node: usize,
 )
-    requires ready { Ready plant.now }
     requires within { node < length plant.now.nodes.now }
-    requires filled { Filled Y.Yardstick.nil Y.Yardstick.plus Y.Yardstick.above Y.Yardstick.station Y.Yardstick.line plant.now cells.old node }
+    requires filled { Begun Y.Yardstick plant.now cells.old node }
     requires known { Known plant.now reach.now (node + 1) }
-    ensures { NodesFilled Y.Yardstick.nil Y.Yardstick.plus Y.Yardstick.above Y.Yardstick.station Y.Yardstick.line plant.now cells.old cells.new (node + 1) }
+    ensures { FillsNodes Y.Yardstick plant.now cells.old cells.new (node + 1) }
 {
     fill_row(plant, y, cells, reach, node, false, false);
     fill_row(plant, y, cells, reach, node, false, true);
@@ -275,13 +165,12 @@ fn fill_node<Y: Yardstick>(
     fill_row(plant, y, cells, reach, node, true, true);
 }
 
-// Fills the rows of all nodes; halves have smaller numbers than their join.
-pub fn fill<Y: Yardstick>(plant: &Plant<'_>, y: &Y, cells: &mut [Cell<Y::Figure>])
-    requires ready { Ready plant.now }
-    requires room { need_of (length plant.now.lines.now) plant.now.budget ≤ length cells.old }
-    ensures { NodesFilled Y.Yardstick.nil Y.Yardstick.plus Y.Yardstick.above Y.Yardstick.station Y.Yardstick.line plant.now cells.old cells.new (length plant.now.nodes.now) }
+// Fills the rows of all nodes; halves have smaller numbers than their join. By number: the reach of a node is read off those before it.
+pub fn fill<'p, Y: Yardstick>(plant: &'p Plant<'p>, y: &Y, cells: &mut [Cell<Y::Figure>])
+    requires room { Room plant.now cells.old }
+    ensures { FillsNodes Y.Yardstick plant.now cells.old cells.new (length plant.now.nodes.now) }
 {
-    let mut reach = [0; 255];
+    let mut reach = [0; MAX_NODES];
     for node in 0..plant.nodes.len() {
         reach[node] = reach_of(plant, &reach, node);
         fill_node(plant, y, cells, &reach, node);

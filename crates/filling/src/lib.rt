@@ -2,3 +2,5 @@
 #![tactic(auto)]
 
 pub mod fill;
+pub mod joint;
+pub mod tables;

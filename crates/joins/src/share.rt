@@ -1,7 +1,6 @@
-// What a station adds in one state: its figure, its hours, and whether its hold allows the state.
+// What a station adds in a state that its hold allows: its figure and its hours.
 #[derive(Clone, Copy)]
 pub struct Share<F> {
     pub figure: F,
     pub hours: usize,
-    pub allowed: bool,
 }

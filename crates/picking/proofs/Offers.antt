@@ -10,7 +10,11 @@ use Rattle.picking.specs.declared.offer.Offer.{Offer}
 use Rattle.joins.specs.declared.share.Share.{Share}
 use Rattle.plant.specs.declared.records.Station.{Station}
 use Rattle.plant.specs.declared.site.Plant.{Plant}
-use Rattle.picking.specs.Offers.{outranks, offer_of, Offered, RowOffers, EndsOffers, RootOffers, Leads, Leading}
+use Rattle.plant.specs.Trees.{left, right}
+use Rattle.std.proofs.lemmas.Option.{same_Some}
+use Rattle.cells.specs.Tables.{memory}
+use Rattle.filling.specs.Sites.{site, tree}
+use Rattle.picking.specs.Offers.{outranks, offer_of, root, share_at, Offered, RowOffers, EndsOffers, RootOffers, Leads, Leading}
 
 ends_same : (l r : Bool) → EndsLead l r l r
 ends_same l r = inr (refl, inr refl)
@@ -27,8 +31,6 @@ moved : {F : Type 0} (plus : F → F → F) (L R : Share F) (budget v : ℕ) (l 
     → Offered plus row L R budget v l r h o → Offered plus row' L R budget v l r h o
 moved plus L R budget v l r row row' h o same c = record {
   spot_is = c.spot_is;
-  keeps_left = c.keeps_left;
-  keeps_right = c.keeps_right;
   total = c.total;
   within = c.within;
   cell = c.cell;
@@ -137,20 +139,20 @@ module _ {F : Type 0} {above : F → F → Bool} (laws : Order above) where
         let e : c.cell ≡ x = some_is c.cell x (sym c.holds ∙ is) in
         leads_like (made x) o (c.makes ∙ ap (λ (y : F). plus (plus y L.figure) R.figure) e) c.total c.spot_is
 
-    made_offered : (x : F) → L.allowed ≡ true → R.allowed ≡ true → row h ≡ Some x → h + L.hours + R.hours ≤ budget → Offered plus row L R budget v l r h (made x)
-    made_offered x al ar is le = record { spot_is = refl; keeps_left = al; keeps_right = ar; total = refl; within = le; cell = x; holds = is; makes = refl }
+    made_offered : (x : F) → row h ≡ Some x → h + L.hours + R.hours ≤ budget → Offered plus row L R budget v l r h (made x)
+    made_offered x is le = record { spot_is = refl; total = refl; within = le; cell = x; holds = is; makes = refl }
 
-    pub one_offer : (cell : Option F) → L.allowed ≡ true → R.allowed ≡ true → row h ≡ cell
+    pub one_offer : (cell : Option F) → row h ≡ cell
         → Leading above (Offered plus row L R budget v l r h) (offer_of plus L R budget (record { node = v; left = l; right = r; hours = h }) cell)
-    one_offer None al ar is = leading_none _ (λ o c. none_some c.cell (sym is ∙ c.holds))
-    one_offer (Some x) al ar is = ⊎_elim
+    one_offer None is = leading_none _ (λ o c. none_some c.cell (sym is ∙ c.holds))
+    one_offer (Some x) is = ⊎_elim
         (λ over.
         let lt = ltb-true budget (h + L.hours + R.hours) over in
         rw over (leading_none _ (λ o c. omega (arith, c.total, c.within))))
         (λ under.
         let le = ltb-false budget (h + L.hours + R.hours) under in
         rw under (record {
-          reached = λ o f. subst (Offered plus row L R budget v l r h) (some_is (made x) o f) (made_offered x al ar is le);
+          reached = λ o f. subst (Offered plus row L R budget v l r h) (some_is (made x) o f) (made_offered x is le);
           leads = λ o c. (made x, refl, made_leads x o is c);
         }))
         (cases_Bool (ltb budget (h + L.hours + R.hours)))
@@ -167,6 +169,18 @@ module _ {F : Type 0} {above : F → F → Bool} (laws : Order above) where
       → Leading above (BelowOffers plus (cell_of row) L R budget v l r i) a → Leading above (RowOffers plus (cell_of row) L R budget v l r) a
   offers_end plus L R budget v l r row i a all = leading_same (λ x h. (h.0, h.2)) (λ x h. (h.0, omega (arith, held_within row h.0 h.1.cell h.1.holds), h.1))
 
+  -- shares of the ends that are there are the ones that its offers are read off with
+  pub ends_lead : (nil : F) (plus : F → F → F) (f : Station → F) (p : Plant) (cells : List (Option F)) (l r : Bool) (L R : Share F) → Some L ≡ share_at nil f p (left (site p).net (tree p)) l
+      → Some R ≡ share_at nil f p (right (site p).net (tree p)) r → (a : Option (Offer F)) → Leading above (RowOffers plus (memory (p.budget + 1) cells (root p) l r) L R p.budget (root p) l r) a
+      → Leading above (EndsOffers nil plus f p cells l r) a
+  ends_lead nil plus f p cells l r L R first last a = leading_same
+      (λ o c. (L, R, sym first, sym last, c))
+      (λ o c.
+      let eL : c.0 ≡ L = same_Some c.0 L (sym c.2 ∙ sym first) in
+      let eR : c.1 ≡ R = same_Some c.1 R (sym c.3 ∙ sym last) in
+      subst (λ (s : Share F). RowOffers plus (memory (p.budget + 1) cells (root p) l r) L s p.budget (root p) l r o) eR
+      (subst (λ (s : Share F). RowOffers plus (memory (p.budget + 1) cells (root p) l r) s c.1 p.budget (root p) l r o) eL c.4))
+
   -- a row that agrees up to the budget
   pub row_agrees : (plus : F → F → F) (L R : Share F) (budget v : ℕ) (l r : Bool) (row row' : ℕ → Option F) (a : Option (Offer F)) → ((k : ℕ) → k ≤ budget → row k ≡ row' k)
       → Leading above (RowOffers plus row L R budget v l r) a → Leading above (RowOffers plus row' L R budget v l r) a
@@ -178,7 +192,7 @@ module _ {F : Type 0} {above : F → F → Bool} (laws : Order above) (nil : F) 
   At l r = EndsOffers nil plus f p cells l r
 
   ends_of : (l r : Bool) (o : Offer F) → At l r o → (o.spot.left ≡ l) × (o.spot.right ≡ r)
-  ends_of l r o c = (ap (λ (s : Spot). s.left) c.1.spot_is, ap (λ (s : Spot). s.right) c.1.spot_is)
+  ends_of l r o c = let d = c.4.1 in (ap (λ (s : Spot). s.left) d.spot_is, ap (λ (s : Spot). s.right) d.spot_is)
 
   to_root : (o : Offer F) → (At false false o ⊎ At false true o) ⊎ (At true false o ⊎ At true true o) → RootOffers nil plus f p cells o
   to_root o = ⊎_elim (⊎_elim (λ c. (false, false, c)) (λ c. (false, true, c))) (⊎_elim (λ c. (true, false, c)) (λ c. (true, true, c)))

@@ -10,6 +10,8 @@ use Rattle.joins.specs.declared.cell.Spot.{Spot}
 use Rattle.picking.specs.declared.offer.Offer.{Offer}
 use Rattle.joins.specs.declared.share.Share.{Share}
 use Rattle.joins.specs.Shares.{share}
+use Rattle.yardsticks.specs.declared.yardstick.Yardstick.{Ghosts}
+use Rattle.filling.specs.declared.tables.Tables.{Tables}
 use Rattle.filling.specs.Sites.{site, tree}
 
 -- the higher figure, and of equal figures the fewer hours
@@ -25,8 +27,6 @@ offer_of plus L R budget s (Some x) =
 -- o is read off the cell h of the row, with these shares of the ends
 pub record Offered {F : Type 0} (plus : F → F → F) (row : ℕ → Option F) (L R : Share F) (budget v : ℕ) (l r : Bool) (h : ℕ) (o : Offer F) : Type 0 where
   pub spot_is : o.spot ≡ record { node = v; left = l; right = r; hours = h }
-  pub keeps_left : L.allowed ≡ true
-  pub keeps_right : R.allowed ≡ true
   pub total : o.hours ≡ h + L.hours + R.hours
   pub within : o.hours ≤ budget
   pub cell : F
@@ -52,15 +52,24 @@ pub record Leading {F : Type 0} (above : F → F → Bool) (Cand : Offer F → T
 abbrev pub root : Plant → ℕ
 root p = length p.nodes.now - 1
 
--- the share of a station of the plant in a state
-abbrev pub share_at : {F : Type 0} → F → (Station → F) → Plant → ℕ → Bool → Share F
+-- the share of a station of the plant in a state that its hold allows
+abbrev pub share_at : {F : Type 0} → F → (Station → F) → Plant → ℕ → Bool → Option (Share F)
 share_at nil f p i m = share nil f (station p.stations.now i) m
 
--- o is read off a cell of the root with its ends in these states
+-- o is read off a cell of the root with its ends in these states, which their holds allow
 abbrev pub EndsOffers : {F : Type 0} → F → (F → F → F) → (Station → F) → Plant → List (Option F) → Bool → Bool → Offer F → Type 0
-EndsOffers nil plus f p cells l r =
-    RowOffers plus (memory (p.budget + 1) cells (root p) l r) (share_at nil f p (left (site p).net (tree p)) l) (share_at nil f p (right (site p).net (tree p)) r) p.budget (root p) l r
+EndsOffers {F} nil plus f p cells l r o =
+    (L : Share F) × (R : Share F) × (share_at nil f p (left (site p).net (tree p)) l ≡ Some L) × (share_at nil f p (right (site p).net (tree p)) r ≡ Some R)
+    × RowOffers plus (memory (p.budget + 1) cells (root p) l r) L R p.budget (root p) l r o
 
 -- and in some states
 abbrev pub RootOffers : {F : Type 0} → F → (F → F → F) → (Station → F) → Plant → List (Option F) → Offer F → Type 0
 RootOffers nil plus f p cells o = (l : Bool) × (r : Bool) × EndsOffers nil plus f p cells l r o
+
+-- r leads what the root of filled tables offers with its ends in these states
+abbrev pub LeadsEnds : {Y F : Type 0} {y : Ghosts Y F} → Tables Y F y → Bool → Bool → Option (Offer F) → Type 0
+LeadsEnds {y} t l r o = Leading y.above (EndsOffers y.nil y.plus y.station t.plant.now t.cells.now l r) o
+
+-- and in all states
+abbrev pub LeadsRoot : {Y F : Type 0} {y : Ghosts Y F} → Tables Y F y → Option (Offer F) → Type 0
+LeadsRoot {y} t o = Leading y.above (RootOffers y.nil y.plus y.station t.plant.now t.cells.now) o

@@ -1,18 +1,23 @@
 -- What a filled plan offers to solve and to tick.
-use Rattle.std.proofs.Common.{◌≡◌, ℕ, ◌+◌, ◌<◌, ◌≤◌, true, false, not, ◌&&◌, List, length, get_or, set, replicate, sym, ap, ◌∙◌, subst, ⊎_elim, arith}
+use Rattle.std.proofs.Common.{◌≡◌, ℕ, ◌+◌, ◌<◌, ◌≤◌, true, false, not, ◌&&◌, Some, None, Option, List, length, get_or, set, replicate, sym, ap, ◌∙◌, subst, ⊎_elim, arith}
 use Rattle.std.proofs.lemmas.List.{get_or-replicate, get_or_past, length-replicate, get_or-set_other}
 use Rattle.std.proofs.lemmas.Bool.{cases_lt, cases_eq}
 use Rattle.plant.specs.declared.records.Station.{Station}
 use Rattle.plant.specs.declared.selection.Selection.{Selection}
-use Rattle.plant.specs.Nodes.{IsPlant}
+use Rattle.plant.specs.Records.{StationsInRange}
 use Rattle.plant.specs.Selections.{among, hours}
-use Rattle.plant.specs.Tables.{listed}
-use Rattle.plant.proofs.Props.{plant_out}
 use Rattle.plant.proofs.Sums.{hours_split}
-use Rattle.plan.specs.declared.Plan.{Plan}
+use Rattle.plan.specs.declared.Filled.{Filled}
+use Rattle.plan.specs.Ledger.{stations_in}
 
-pub plan_plant : (p : Plan) → p.filled ≡ true → IsPlant (listed p.stations) (listed p.lines) (listed p.nodes)
-plan_plant p e = plant_out p.filled _ _ _ p.plant e
+-- a plan's stations are few and in range
+pub few : (o : Option Filled) → length (stations_in o) ≤ 64
+few None = omega arith
+few (Some f) = f.plant.few_stations
+
+pub in_range : (o : Option Filled) → StationsInRange (stations_in o)
+in_range None = λ i h. absurd (omega arith)
+in_range (Some f) = f.plant.stations
 
 -- none is in a selection that was made empty
 pub none_in : (s : Selection) → s.open ≡ replicate 64 false → (k : ℕ) → among s k ≡ false

@@ -4,11 +4,11 @@ use Rattle.plant.specs.declared.records.Station.{Station}
 use Rattle.plant.specs.declared.refusal.Reason.TheVariants as R
 use Rattle.plant.specs.declared.refusal.Refusal.{Refusal}
 use Rattle.plant.specs.Selections.{among, hours}
-use Rattle.plant.specs.Tables.{listed}
 use Rattle.plan.specs.declared.pick.Pick.{Pick}
 use Rattle.plan.specs.declared.pick.Issue.{Issue}
 use Rattle.plan.specs.declared.pick.Progress.{Progress}
 use Rattle.plan.specs.declared.pick.Done.{Done}
+use Rattle.plan.specs.Ledger.{stations_in}
 use Rattle.plan.specs.Replies.{call_refused}
 
 -- an issue begins with its pick's list, and nothing ticked
@@ -19,7 +19,7 @@ pub record Issued (k : Pick) (i : Issue) : Type 0 where
 
 -- the stations of an issue's plan
 abbrev pub stations : Issue → List Station
-stations i = listed i.plan.now.stations
+stations i = stations_in i.plan.now.filled
 
 -- the ticked hours are those of the ticked stations as a selection, and with the open hours they make the list's
 pub record Adds (i : Issue) (x : Progress) : Type 0 where

@@ -1,16 +1,16 @@
 -- The ledger: what a plan stands for, and what a call makes of it, from the call's arguments and the ledger alone. Assumes nothing.
-use Rattle.std.specs.Prelude.{◌≡◌, ℕ, false, cond, List, length, ℤ, is_ok, Some, None, Ok, Err, Option, Result, ◌==◌, nat_le, nat_lt, slice_set}
+use Rattle.std.specs.Prelude.{◌≡◌, ℕ, false, cond, List, [], length, ℤ, is_ok, Some, None, Ok, Err, Option, Result, ◌==◌, nat_le, nat_lt, slice_set}
 use Rattle.plant.specs.declared.records.Hold.{Hold}
-use Rattle.plant.specs.declared.records.Hold.TheVariants as H
 use Rattle.plant.specs.declared.records.Line.{Line}
 use Rattle.plant.specs.declared.records.Station.{Station}
 use Rattle.plant.specs.declared.refusal.Reason.TheVariants as R
+use Rattle.plant.specs.declared.tree.Node.{Node}
 use Rattle.plant.specs.Nodes.{tree_of}
-use Rattle.plant.specs.Records.{station, line}
-use Rattle.plant.specs.Tables.{listed}
+use Rattle.plant.specs.Records.{station, line, hold_of}
 use Rattle.plant.specs.Trees.{Tree}
 use Rattle.texts.specs.Verdict.{Verdict, accepted, verdict}
 use Rattle.texts.specs.Verdict.{refused as refused_texts}
+use Rattle.plan.specs.declared.Filled.{Filled}
 use Rattle.plan.specs.declared.Plan.{Plan}
 use Rattle.plan.specs.Replies.{Reply, refused, in_gain}
 
@@ -26,11 +26,32 @@ pub data Ledger : Type 0 where
   blank : Ledger
   filled : Books → Ledger
 
-abbrev pub books : Plan → Books
-books p = record { stations = listed p.stations; lines = listed p.lines; tree = tree_of (listed p.nodes); budget = p.budget }
+abbrev pub books : Filled → Books
+books f = record { stations = f.stations.items; lines = f.lines.items; tree = tree_of f.nodes.items; budget = f.budget }
+
+abbrev pub shown : Option Filled → Ledger
+shown None = blank
+shown (Some f) = filled (books f)
 
 abbrev pub view : Plan → Ledger
-view p = cond p.filled (filled (books p)) blank
+view p = shown p.filled
+
+-- what a plan has of each; a blank one has none
+abbrev pub stations_in : Option Filled → List Station
+stations_in None = []
+stations_in (Some f) = f.stations.items
+
+abbrev pub lines_in : Option Filled → List Line
+lines_in None = []
+lines_in (Some f) = f.lines.items
+
+abbrev pub nodes_in : Option Filled → List Node
+nodes_in None = []
+nodes_in (Some f) = f.nodes.items
+
+abbrev pub budget_in : Option Filled → ℕ
+budget_in None = 0
+budget_in (Some f) = f.budget
 
 -- what is set: the budget; a station's hours, gain and urgent mark; a line's gain; a station's hold
 pub data Setting : Type 0 where
@@ -47,10 +68,6 @@ pub data Call : Type 0 where
 -- what becomes of the books: the new ones, or the reply that refuses
 abbrev pub Outcome : Type 0
 Outcome = Result Books Reply
-
--- a hold by its number
-abbrev pub hold_of : ℕ → Option Hold
-hold_of n = cond (n == 0) (Some H.Free) (cond (n == 1) (Some H.Open) (cond (n == 2) (Some H.Shut) None))
 
 abbrev pub put_station : Books → ℕ → Station → Books
 put_station b k s = record { stations = slice_set b.stations k s; lines = b.lines; tree = b.tree; budget = b.budget }

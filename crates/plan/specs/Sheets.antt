@@ -5,9 +5,9 @@ use Rattle.plant.specs.declared.refusal.Refusal.{Refusal}
 use Rattle.plant.specs.Records.{station}
 use Rattle.plant.specs.Refusals.{number, part_number}
 use Rattle.plant.specs.Selections.{Selection, among, upto}
-use Rattle.plant.specs.Tables.{listed}
 use Rattle.tables.specs.Numerals.{spelled, spelledℤ}
 use Rattle.plan.specs.declared.pick.Pick.{Pick}
+use Rattle.plan.specs.Ledger.{stations_in}
 
 abbrev pub comma : List ℕ
 comma = 44 ∷ []
@@ -32,7 +32,7 @@ abbrev pub sheet : List Station → Selection → ℕ → ℤ → List ℕ
 sheet ss S h g = (codes "station,hours,gain" ++ line_end) ++ (rows ss S (length ss) ++ (codes "total" ++ (comma ++ figures h g)))
 
 abbrev pub sheet_of : Pick → List ℕ
-sheet_of k = sheet (listed k.plan.now.stations) (among k.selection) k.hours k.gain
+sheet_of k = sheet (stations_in k.plan.now.filled) (among k.selection) k.hours k.gain
 
 -- a refusal's number, part and place
 abbrev pub refusal_line : Refusal → List ℕ

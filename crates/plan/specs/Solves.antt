@@ -12,10 +12,19 @@ use Rattle.cells.specs.Cell.{CellChoice}
 use Rattle.cells.specs.Subtrees.{sub}
 use Rattle.cells.specs.Tables.{place, need_of}
 use Rattle.cells.specs.Tops.{Tops, cell_of}
+use Rattle.plant.specs.declared.site.Plant.{Plant}
+use Rattle.plan.specs.declared.Filled.{Filled}
 use Rattle.plan.specs.declared.Plan.{Plan}
 use Rattle.plan.specs.declared.pick.Pick.{Pick}
 use Rattle.plan.specs.Ledger.{Books, Ledger, blank, filled, view}
 use Rattle.plan.specs.Replies.{call_refused}
+
+-- the plant that a filled plan lends
+pub record IsLent (f : Filled) (q : Plant) : Type 0 where
+  pub stations : q.stations.now ≡ f.stations.items
+  pub lines : q.lines.now ≡ f.lines.items
+  pub nodes : q.nodes.now ≡ f.nodes.items
+  pub budget : q.budget ≡ f.budget
 
 -- the cells that a solve needs
 abbrev pub need : Books → ℕ

@@ -1,30 +1,33 @@
 // The plan of a stop: what is to be solved, the list that comes of it, and the ticks on that list.
 #![tactic(auto)]
 
-ghost use Rattle.std.specs.Prelude.{◌≡◌, ◌≤◌, true, length};
+ghost use Rattle.std.specs.Prelude.{◌≤◌};
 ghost use Rattle.plant.specs.Nodes.{IsPlant};
-ghost use Rattle.plant.specs.Tables.{listed};
+ghost use Rattle.plant.specs.Props.{plant_prop};
 
+use arrayvec::ArrayVec;
+use plant::limits::{MAX_LINES, MAX_NODES, MAX_STATIONS};
 use plant::records::{Line, Station};
-use plant::table::Table;
 use plant::tree::Node;
 
 pub mod changes;
 pub mod pick;
 pub mod script;
 pub mod sheet;
-pub mod words;
+
+// What a plan holds once it is filled: a plant's records, the nodes of its tree, and the budget of hours.
+#[derive(Drop)]
+struct Filled {
+    stations: ArrayVec<Station, MAX_STATIONS>,
+    lines: ArrayVec<Line, MAX_LINES>,
+    nodes: ArrayVec<Node, MAX_NODES>,
+    budget: u32,
+    ghost plant: { IsPlant stations.items lines.items nodes.items } by { plant_prop stations.items lines.items nodes.items },
+    ghost cheap: { budget ≤ 1000 },
+}
 
 // A plan is blank until it is filled.
 #[derive(Drop)]
 pub struct Plan {
-    stations: Table<Station, 64>,
-    lines: Table<Line, 128>,
-    nodes: Table<Node, 255>,
-    budget: u32,
-    filled: bool,
-    ghost wide: { (length stations.rows ≡ 64) × (length lines.rows ≡ 128) × (length nodes.rows ≡ 255) },
-    ghost few: { (stations.count ≤ 64) × (lines.count ≤ 128) × (nodes.count ≤ 255) },
-    ghost cheap: { budget ≤ 1000 },
-    ghost plant: { ∥ (filled ≡ true → IsPlant (listed stations) (listed lines) (listed nodes)) ∥₁ },
+    filled: Option<Filled>,
 }

@@ -1,7 +1,7 @@
 // A pick: the list that a solve hands out. The plan stays as it is while one stands. An issue: a pick that is ticked off.
-ghost use Rattle.std.specs.Prelude.{◌≡◌, ℕ, ◌≤◌, true, length};
+ghost use Rattle.std.specs.Prelude.{◌≡◌, ℕ, true, is_some};
 ghost use Rattle.plant.specs.Selections.{among, hours as hoursBy, gain as gainBy};
-ghost use Rattle.plant.specs.Tables.{listed};
+ghost use Rattle.plan.specs.Ledger.{stations_in, lines_in};
 
 use crate::Plan;
 use plant::selection::Selection;
@@ -14,10 +14,9 @@ pub struct Pick<'a> {
     selection: Selection,
     hours: u32,
     gain: i64,
-    ghost wide: { length selection.open ≡ 64 },
-    ghost filled: { plan.now.filled ≡ true },
-    ghost takes: { hours ≡ hoursBy (listed plan.now.stations) (among selection) },
-    ghost gains: { gain ≡ gainBy (listed plan.now.stations) (listed plan.now.lines) (among selection) },
+    ghost filled: { is_some plan.now.filled ≡ true },
+    ghost takes: { hours ≡ hoursBy (stations_in plan.now.filled) (among selection) },
+    ghost gains: { gain ≡ gainBy (stations_in plan.now.filled) (lines_in plan.now.filled) (among selection) },
 }
 
 #[derive(Drop)]
@@ -25,8 +24,7 @@ pub struct Issue<'a> {
     plan: &'a Plan,
     selection: Selection,
     ticked: Selection,
-    ghost wide: { (length selection.open ≡ 64) × (length ticked.open ≡ 64) },
-    ghost filled: { plan.now.filled ≡ true },
+    ghost filled: { is_some plan.now.filled ≡ true },
     ghost inside: { ((k : ℕ) → among ticked k ≡ true → among selection k ≡ true) },
 }
 

@@ -1,17 +1,19 @@
 // Scripts: calls as data, and the answers to them.
 use crate::pick::{Done, Progress};
+use plant::limits::MAX_STATIONS;
 use plant::refusal::Refusal;
 use plant::selection::Selection;
 
 pub mod perform;
 
-// Which of two yardsticks a solve goes by.
+// Which of two yardsticks a solve goes by. No closure: the two yardsticks are two types.
 #[derive(Clone, Copy, PartialEq, Eq, Debug)]
 pub enum Measure {
     First,
     Second,
 }
 
+// Any number is a call, which may be refused.
 #[derive(Clone, Copy)]
 pub enum Entry<'a> {
     Fill {
@@ -50,10 +52,13 @@ pub enum Entry<'a> {
 // Longer than any sheet: a header, 64 stations and a total.
 pub const SHEET_BYTES: usize = 1_400;
 
-// A sheet as it was written.
+// What the largest plant at the largest budget needs.
+pub const MOST_CELLS: usize = 1_021_020;
+
+// A sheet as it was written: a buffer with its length, no plainer as a vector, since a sheet is written into a slice.
 #[derive(Clone, Copy)]
 pub struct SheetText {
-    pub bytes: [u8; 1_400],
+    pub bytes: [u8; SHEET_BYTES],
     pub length: usize,
 }
 
@@ -61,9 +66,10 @@ pub struct SheetText {
 #[derive(Clone, Copy)]
 pub struct Ending {
     pub done: Done,
-    pub hours: [u32; 64],
+    pub hours: [u32; MAX_STATIONS],
 }
 
+// Unasked stands in the memory that is lent for answers until a line is answered.
 #[derive(Clone, Copy)]
 pub enum Answer {
     Unasked,

@@ -1,9 +1,8 @@
 // The printed list, and the line that tells a refusal.
-ghost use Rattle.std.specs.Prelude.{◌≡◌, ℕ, ◌+◌, ◌*◌, ◌^◌, ◌<◌, ◌≤◌, List, [], ◌∷◌, length, MatchResult};
-ghost use Rattle.plant.specs.Records.{StationsInRange};
-ghost use Rattle.plant.specs.Selections.{Wide, among};
-ghost use Rattle.tables.specs.Laid.{Wrote};
-ghost use Rattle.plan.specs.Sheets.{figures as figuresText, row as rowText, rows as rowsText, sheet_of, refusal_line};
+ghost use Rattle.std.specs.Prelude.{length};
+ghost use Rattle.plant.specs.Selections.{among};
+ghost use Rattle.tables.specs.Laid.{Adds};
+ghost use Rattle.plan.specs.Sheets.{figures as figures_text, row as row_text, rows as rows_text, sheet_of, refusal_line};
 ghost use Rattle.plan.specs.Issues.{Printed as IsPrinted};
 
 use crate::changes::refuse;
@@ -11,94 +10,73 @@ use crate::pick::Pick;
 use plant::records::Station;
 use plant::refusal::{Reason, Refusal};
 use plant::selection::Selection;
-use tables::write::{Printed, integer, number, print_whole, put, text};
-
-fn comma(out: &mut [u8], at: usize) -> usize
-    requires { at < 2 ^ 32 }
-    ensures { Wrote out.old at (44 ∷ []) out.new result }
-{
-    put(out, at, b',')
-}
+use tables::write::{Printed, Writer, print_whole};
 
 // The end of a record: hours and gain.
-fn figures(out: &mut [u8], at: usize, hours: u32, gain: i64) -> usize
-    requires { at + 50 < 2 ^ 32 }
-    ensures wrote { Wrote out.old at (figuresText hours gain) out.new result }
-    ensures bound { result ≤ at + 44 }
+fn figures(to: &mut Writer, hours: u32, gain: i64)
+    ensures { Adds to.old (figures_text hours gain) to.new }
 {
-    let at = number(out, at, hours as u64);
-    let at = comma(out, at);
-    let at = integer(out, at, gain);
-    text(out, at, "\r\n")
+    to.number(hours);
+    to.text(",");
+    to.number(gain);
+    to.text("\r\n");
 }
 
-fn row(out: &mut [u8], at: usize, k: usize, s: &Station) -> usize
-    requires { at + 80 < 2 ^ 32 }
-    ensures wrote { Wrote out.old at (rowText k s.now) out.new result }
-    ensures bound { result ≤ at + 65 }
+fn row(to: &mut Writer, k: usize, s: &Station)
+    ensures { Adds to.old (row_text k s.now) to.new }
 {
-    let at = number(out, at, k as u64);
-    let at = comma(out, at);
-    figures(out, at, s.hours, s.gain)
+    to.number(k);
+    to.text(",");
+    figures(to, s.hours, s.gain);
 }
 
-fn rows(out: &mut [u8], at: usize, stations: &[Station], selection: &Selection) -> usize
-    requires wide { Wide selection.now }
-    requires few { length stations.now ≤ 64 }
-    requires room { at + 5000 < 2 ^ 32 }
-    ensures wrote { Wrote out.old at (rowsText stations.now (among selection.now) (length stations.now)) out.new result }
-    ensures bound { result ≤ at + 4160 }
+fn rows(to: &mut Writer, stations: &[Station], selection: &Selection)
+    ensures { Adds to.old (rows_text stations.now (among selection.now) (length stations.now)) to.new }
 {
-    let mut end = at;
-    for k in 0..stations.len() {
+    for (k, station) in stations.iter().enumerate() {
         if selection.has(k) {
-            end = row(out, end, k, &stations[k]);
+            row(to, k, station);
         }
     }
-    end
 }
 
 impl Printed for Pick<'_> {
     ghost bytes = { sheet_of };
 
-    fn print(&self, out: &mut [u8]) -> usize {
-        let at = text(out, 0, "station,hours,gain\r\n");
-        let selection = self.selection();
-        let at = rows(out, at, self.plan().stations(), &selection);
-        let at = text(out, at, "total");
-        let at = comma(out, at);
-        figures(out, at, self.hours(), self.gain())
+    fn print(&self, to: &mut Writer) {
+        to.text("station,hours,gain\r\n");
+        rows(to, self.plan().stations(), &self.selection());
+        to.text("total,");
+        figures(to, self.hours(), self.gain());
     }
 }
 
-// A refusal as it is printed.
+// Longer than the line of any refusal.
+pub const LINE_BYTES: usize = 64;
+
+// A refusal as it is printed: a type of this crate, which may take a trait of another.
 #[derive(Clone, Copy)]
-struct Told {
-    refusal: Refusal,
-}
+struct Told<'a>(&'a Refusal);
 
-impl Printed for Told {
-    ghost bytes = { λ t. refusal_line t.refusal };
+impl Printed for Told<'_> {
+    ghost bytes = { λ t. refusal_line t.0.now };
 
-    fn print(&self, out: &mut [u8]) -> usize {
-        let at = text(out, 0, "refused");
-        let at = comma(out, at);
-        let at = number(out, at, self.refusal.reason.number() as u64);
-        let at = comma(out, at);
-        let at = number(out, at, self.refusal.part.number() as u64);
-        let at = comma(out, at);
-        let at = number(out, at, self.refusal.place as u64);
-        text(out, at, "\r\n")
+    fn print(&self, to: &mut Writer) {
+        let Told(refusal) = self;
+        to.text("refused,");
+        to.number(refusal.reason.number());
+        to.text(",");
+        to.number(refusal.part.number());
+        to.text(",");
+        to.number(refusal.place);
+        to.text("\r\n");
     }
 }
 
 fn printed<P: Printed>(p: &P, out: &mut [u8]) -> Result<usize, Refusal>
     ensures { IsPrinted (P.Printed.bytes p.now) out.old out.new result }
 {
-    match print_whole(p, out) {
-        Ok(length) => Ok(length),
-        Err(need) => Err(refuse(Reason::MemoryTooShort, need)),
-    }
+    print_whole(p, out).map_err(|need| refuse(Reason::MemoryTooShort, need))
 }
 
 impl Pick<'_> {
@@ -114,5 +92,5 @@ impl Pick<'_> {
 pub fn refusal_line(refusal: &Refusal, out: &mut [u8]) -> Result<usize, Refusal>
     ensures { IsPrinted (refusal_line refusal.now) out.old out.new result }
 {
-    printed(&Told { refusal: *refusal }, out)
+    printed(&Told(refusal), out)
 }

@@ -1,3 +1,3 @@
 pub mod Sums
-pub mod Props
 pub mod Kept
+pub mod Made

@@ -1,6 +1,5 @@
 -- The step of a sum by number, and how large sums get.
-use Rattle.std.proofs.Common.{◌≡◌, ℕ, zero, suc, ◌+◌, ◌≤◌, Bool, true, false, cond, not, ◌&&◌, List, length, ℤ, pos, ◌+ℤ◌, nat_abs, sym, refl, ap, ◌∙◌, add-one, arith}
-use Rattle.std.proofs.lemmas.Int.{ints}
+use Rattle.std.proofs.Common.{◌≡◌, ℕ, zero, suc, ◌+◌, ◌≤◌, Bool, true, false, cond, not, ◌&&◌, List, length, sym, refl, ap, ◌∙◌, add-one, arith}
 use Rattle.std.proofs.lemmas.Bool.{false≢true}
 use Rattle.plant.specs.declared.records.Station.{Station}
 use Rattle.plant.specs.Records.{station}
@@ -13,17 +12,6 @@ upto_more nil plus f n = rw add-one
 pub cond_small : (b : Bool) (x w : ℕ) → x ≤ w → cond b x 0 ≤ w
 cond_small true x w h = h
 cond_small false x w h = omega arith
-
-pub cond-smallℤ : (b : Bool) (z : ℤ) (w : ℕ) → nat_abs z ≤ w → nat_abs (cond b z (pos 0)) ≤ w
-cond-smallℤ true z w h = h
-cond-smallℤ false z w h = omega arith
-
-pub unsigned_abs-add : (a b : ℤ) (v w : ℕ) → nat_abs a ≤ v → nat_abs b ≤ w → nat_abs (a +ℤ b) ≤ v + w
-unsigned_abs-add a b v w p q = omega (arith, ints)
-
--- one turn of a loop that adds up by number
-pub sum_step : (f : ℕ → ℤ) (n : ℕ) (x t g : ℤ) → x ≡ t +ℤ g → t ≡ upto (pos 0) ◌+ℤ◌ f n → g ≡ f n → x ≡ upto (pos 0) ◌+ℤ◌ f (n + 1)
-sum_step f n x t g e p q = let m = upto_more (pos 0) ◌+ℤ◌ f n in cc
 
 -- ---- what a selection takes is what a part of it takes and what the rest does
 

@@ -1,5 +1,5 @@
 -- What a stack holds. Assumes nothing.
-use Rattle.std.specs.Prelude.{◌≡◌, ℕ, ◌≤◌, List, [], ◌∷◌, ◌++◌, length, take, Some, None, Option}
+use Rattle.std.specs.Prelude.{◌≡◌, ℕ, List, [], ◌∷◌, ◌++◌, length, take, Some, None, Option}
 use Rattle.plant.specs.declared.stack.Stack.{Stack}
 
 -- its entries, the newest last
@@ -9,9 +9,6 @@ held s = take s.len s.items.now
 -- how many it may hold
 abbrev pub room : {T : Type 0} → Stack T → ℕ
 room s = length s.items.now
-
-abbrev pub Whole : {T : Type 0} → Stack T → Type 0
-Whole s = s.len ≤ length s.items.now
 
 abbrev pub Popped : {T : Type 0} → Option T → List T → List T → Type 0
 Popped None before after = (before ≡ []) × (after ≡ [])

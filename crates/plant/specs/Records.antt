@@ -1,5 +1,5 @@
 -- The ranges of a plant's records, and what a hold allows. Assumes nothing.
-use Rattle.std.specs.Prelude.{ℕ, ◌<◌, ◌≤◌, Bool, true, false, not, List, length, pos, ◌≢◌, slice_index_or, unsigned_abs}
+use Rattle.std.specs.Prelude.{◌≡◌, ℕ, ◌<◌, ◌≤◌, Bool, true, false, not, cond, List, length, pos, ◌≢◌, ◌==◌, Some, None, Option, Ok, Err, Result, slice_index_or, unsigned_abs}
 use Rattle.plant.specs.declared.records.Hold.{Hold}
 use Rattle.plant.specs.declared.records.Hold.TheVariants.{Free, Open, Shut}
 use Rattle.plant.specs.declared.records.Station.{Station}
@@ -24,6 +24,15 @@ StationInRange s = (s.hours ≤ max_hours) × (unsigned_abs s.gain ≤ max_gain)
 
 abbrev pub LineInRange : Line → Type 0
 LineInRange l = unsigned_abs l.gain ≤ max_gain
+
+-- a hold by its number
+abbrev pub hold_of : ℕ → Option Hold
+hold_of n = cond (n == 0) (Some Free) (cond (n == 1) (Some Open) (cond (n == 2) (Some Shut) None))
+
+-- the hold of a number is given, or the number handed back where it is of none
+abbrev pub GivesHold : ℕ → Result Hold ℕ → Type 0
+GivesHold n (Ok h) = hold_of n ≡ Some h
+GivesHold n (Err e) = (hold_of n ≡ None) × (e ≡ n)
 
 -- whether a hold allows a station to be open, or shut
 abbrev pub allows : Hold → Bool → Bool

@@ -12,10 +12,6 @@ Selection = ℕ → Bool
 abbrev pub among : Marks → Selection
 among s i = slice_index_or s.open i false
 
--- a mark for each station that a plant may have
-abbrev pub Wide : Marks → Type 0
-Wide s = length s.open ≡ 64
-
 -- f 0, f 1 and so on below n, added up
 abbrev pub upto : {F : Type 0} → F → (F → F → F) → (ℕ → F) → ℕ → F
 upto nil plus f zero = nil

@@ -7,5 +7,4 @@ pub mod refusal;
 pub mod selection;
 pub mod site;
 pub mod stack;
-pub mod table;
 pub mod tree;

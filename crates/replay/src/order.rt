@@ -1,36 +1,46 @@
 // One line of a script, and what it orders.
+use crate::folder::Texts;
 use number::{gain, number};
-use plan::script::{Entry, Measure, SHEET_BYTES};
-use std::alloc::{AllocError, Global};
+use plan::script::{Entry, MOST_CELLS, Measure, SHEET_BYTES};
+use plant::records::Hold;
+use std::alloc::AllocError;
 
 pub mod number;
 
-// What the largest plant at the largest budget needs.
-pub const MOST_CELLS: usize = 1_021_020;
-
-// A fill names a folder; every other call is complete as it stands.
-#[derive(Clone, Copy)]
-pub enum Order<'a> {
-    Fill(&'a str),
+// A fill names a folder, and brings its texts; every other call is complete as it stands.
+#[derive(Drop)]
+pub enum Order {
+    Fill(Texts),
     Call(Entry<'static>),
 }
 
-// A line of the script by its number, with its order where it can be read.
-#[derive(Clone, Copy)]
-pub struct ScriptLine<'a> {
-    pub number: usize,
-    pub order: Option<Order<'a>>,
+impl Order {
+    pub fn call(&self) -> Entry<'_> {
+        match self {
+            Order::Fill(texts) => texts.fill(),
+            Order::Call(entry) => *entry,
+        }
+    }
 }
 
+// A line of the script by its number, with its order where it can be read.
+#[derive(Drop)]
+pub struct ScriptLine {
+    pub number: usize,
+    pub order: Option<Order>,
+}
+
+// The number of a hold. Any number is a call, which the plan may refuse. The tables' reader of these words goes by bytes and is its crate's.
 fn hold(word: &str) -> Option<u32> {
     match word {
-        "free" => Some(0),
-        "open" => Some(1),
-        "shut" => Some(2),
+        "free" => Some(Hold::Free as u32),
+        "open" => Some(Hold::Open as u32),
+        "shut" => Some(Hold::Shut as u32),
         _ => number(word),
     }
 }
 
+// The words are this program's and the measure is the library's, so a function has no plainer form.
 fn measure(word: &str) -> Option<Measure> {
     match word {
         "money" => Some(Measure::First),
@@ -104,59 +114,34 @@ fn call(words: &[&str]) -> Option<Entry<'static>> {
     }
 }
 
-fn order_of<'a>(heap: Global, line: &'a str) -> Result<Option<Order<'a>>, AllocError> {
-    let mut words = Vec::new(heap);
-    for word in line.split(' ') {
-        words.push(word)?;
-    }
-    if let ["fill", folder] = words.as_slice() {
-        return Ok(Some(Order::Fill(*folder)));
-    }
-    match call(words.as_slice()) {
-        Some(entry) => Ok(Some(Order::Call(entry))),
-        None => Ok(None),
+fn order_of(rt: &HostRuntime, line: &str) -> Result<Option<Order>, AllocError> {
+    let words: Vec<&str> = line.split(' ').collect(rt.alloc())?;
+    match words.as_slice() {
+        ["fill", folder] => Ok(Some(Order::Fill(Texts::read(rt, folder)?))),
+        words => Ok(call(words).map(Order::Call)),
     }
 }
 
-// A line without its CR.
-fn trimmed(line: &[u8]) -> &[u8] {
-    match line {
-        [front @ .., b'\r'] => front,
-        all => all,
-    }
-}
-
-// Reads one line; an empty one and a comment order nothing.
-fn take<'a>(
-    heap: Global,
-    number: usize,
-    line: &'a [u8],
-    script: &mut Vec<ScriptLine<'a>>,
-) -> Result<(), AllocError> {
-    let line = trimmed(line);
-    if line.is_empty() || line[0] == b'#' {
-        return Ok(());
+// The order of a line; an empty one and a comment are passed over.
+fn line_of(rt: &HostRuntime, number: usize, line: &[u8]) -> Result<Option<ScriptLine>, AllocError> {
+    let line = line.strip_suffix(b"\r").unwrap_or(line);
+    if matches!(line, [] | [b'#', ..]) {
+        return Ok(None);
     }
     let order = match std::str::from_utf8(line) {
-        Ok(text) => order_of(heap, text)?,
+        Ok(text) => order_of(rt, text)?,
         Err(_) => None,
     };
-    script.push(ScriptLine { number, order })?;
-    Ok(())
+    Ok(Some(ScriptLine { number, order }))
 }
 
-// The lines of a script that order something or cannot be read.
-pub fn read_script<'a>(heap: Global, input: &'a [u8]) -> Result<Vec<ScriptLine<'a>>, AllocError> {
-    let mut script = Vec::new(heap);
-    let mut number = 1usize;
-    let mut from = 0;
-    for i in 0..input.len() {
-        if input[i] == b'\n' {
-            take(heap, number, &input[from..i], &mut script)?;
-            number = number.saturating_add(1);
-            from = i + 1;
+// The lines of a script that order something or cannot be read, numbered from 1.
+pub fn read_script(rt: &HostRuntime, input: &[u8]) -> Result<Vec<ScriptLine>, AllocError> {
+    let mut script = Vec::new(rt.alloc());
+    for (above, line) in input.split(|b| *b == b'\n').enumerate() {
+        if let Some(line) = line_of(rt, above.saturating_add(1), line)? {
+            script.push(line)?;
         }
     }
-    take(heap, number, &input[from..input.len()], &mut script)?;
     Ok(script)
 }

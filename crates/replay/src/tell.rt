@@ -1,58 +1,43 @@
 // Answers as records of comma-separated values, each with CRLF.
-use plan::pick::{Done, Progress};
+use plan::pick::Progress;
 use plan::script::{Answer, Ending, SheetText};
-use plan::sheet::refusal_line;
-use plan::words::InWords;
+use plan::sheet::{LINE_BYTES, refusal_line};
 use plant::refusal::Refusal;
 use plant::selection::Selection;
 use std::io;
 use std::io::Write;
 
-const LINE_BYTES: usize = 64;
-
-fn count(selection: &Selection) -> usize {
-    let mut count = 0usize;
-    for open in selection.open {
-        if open {
-            count = count.saturating_add(1);
-        }
-    }
-    count
-}
-
-// The refusal's line on the standard output, and its meaning on the standard error.
+// The refusal's line on the standard output, and its meaning on the standard error. The libraries print nothing, so each program has this.
 fn tell_refusal(rt: &HostRuntime, line: usize, refusal: Refusal) -> io::Result<()> {
     let mut out = [0u8; LINE_BYTES];
     if let Ok(length) = refusal_line(&refusal, &mut out) {
-        rt.stdout().write_all(&out[0..length])?;
+        rt.stdout().write_all(&out[..length])?;
     }
-    let words = InWords { refusal };
-    eprintln!(rt; "line {line}: {words}")
+    eprintln!(rt; "line {line}: {refusal}")
 }
 
 fn tell_sheet(rt: &HostRuntime, sheet: &SheetText) -> io::Result<()> {
     let length = sheet.length.min(sheet.bytes.len());
-    rt.stdout().write_all(&sheet.bytes[0..length])
+    rt.stdout().write_all(&sheet.bytes[..length])
 }
 
 fn tell_end(rt: &HostRuntime, ending: &Ending) -> io::Result<()> {
-    let Ending { done, hours } = *ending;
-    let ticked = done.hours.ticked;
-    let open = done.hours.open;
+    let Ending { done, hours } = ending;
+    let Progress { ticked, open } = done.hours;
     print!(rt; "ended,{ticked},{open}\r\n")?;
-    for k in 0..64 {
-        let h = hours[k];
-        if done.ticked.open[k] {
-            print!(rt; "{k},{h},ticked\r\n")?;
-        } else if done.open.open[k] {
-            print!(rt; "{k},{h},open\r\n")?;
+    let states = done.ticked.open.iter().zip(&done.open.open);
+    for (k, (hours, (ticked, open))) in hours.iter().zip(states).enumerate() {
+        if *ticked {
+            print!(rt; "{k},{hours},ticked\r\n")?;
+        } else if *open {
+            print!(rt; "{k},{hours},open\r\n")?;
         }
     }
     Ok(())
 }
 
 fn tell_picked(rt: &HostRuntime, selection: &Selection, hours: u32, gain: i64) -> io::Result<()> {
-    let stations = count(selection);
+    let stations = selection.open.iter().filter(|open| **open).count();
     print!(rt; "picked,{stations},{hours},{gain}\r\n")
 }
 

@@ -19,10 +19,7 @@ use Rattle.rows.specs.Written.{Form, Fair, Lists, Writes, cells_from, meant, sta
 use Rattle.rows.proofs.Judging.{Judges, Judged, Takes, judge_says, takes_judged, breaks_judged}
 use Rattle.rows.proofs.LineForm as L
 use Rattle.rows.proofs.StationForm as S
-use Rattle.rows.proofs.Walking.{clash, meant_is, proper_rows, next_told, Found, told_next, not_over, over_rest, stuck_rest, row_rest, no_next, after_whole, after_next, told_onto, stuck_after, refused_once}
-
-from_cons : {X : Type 0} (x y : X) (xs ys : List X) → x ∷ xs ≡ y ∷ ys → (x ≡ y) × (xs ≡ ys)
-from_cons x y xs ys e = (cc, cc)
+use Rattle.rows.proofs.Walking.{meant_is, proper_rows, next_told, Found, told_next, not_over, over_rest, stuck_rest, row_rest, no_next, after_whole, after_next, told_onto, stuck_after, refused_once}
 
 module _ {A : Type 0} (U : Rules A) (F : Form A) (J : Judges U F) where
   -- ---- what the verdict says
@@ -67,7 +64,7 @@ module _ {A : Type 0} (U : Rules A) (F : Form A) (J : Judges U F) where
       }
 
   lists_some : (rs : List W.Row) (rows : List A) → Lists F rs rows → 0 < length rs
-  lists_some [] rows l = let e = l.cells in let z : ◌≡◌ {A = ℕ} 0 1 = cc in clash z
+  lists_some [] rows l = let e = l.cells in cc
   lists_some (r ∷ rs) rows l = omega arith
 
   -- the whole text is a table in order
@@ -141,24 +138,27 @@ module _ {A : Type 0} (U : Rules A) (F : Form A) (J : Judges U F) where
 
   rows_taken : (rs : List W.Row) (more : List A) (n : ℕ) (t : Told) (rows : List A) → AllByRecursion W.Proper rs → map meant rs ≡ cells_from F (length rows) more → AllByRecursion (Fair F) more → length rows + length more ≤ F.most → after U n (onto (map parts rs) t) rows ≡ after U n t (rows ++ more)
   rows_taken [] [] n t rows p e f le = ap (after U n t) (sym (append-nil rows))
-  rows_taken [] (a ∷ more) n t rows p e f le = let z : ◌≡◌ {A = ℕ} 0 1 = cc in clash z
-  rows_taken (r ∷ rs) [] n t rows p e f le = let z : ◌≡◌ {A = ℕ} 0 1 = cc in clash z
+  rows_taken [] (a ∷ more) n t rows p e f le = cc
+  rows_taken (r ∷ rs) [] n t rows p e f le = cc
   rows_taken (r ∷ rs) (a ∷ more) n t rows p e f le =
-      let both = from_cons (meant r) (F.cells (length rows) a) (map meant rs) (cells_from F (length rows + 1) more) e in
+      let this : meant r ≡ F.cells (length rows) a = cc in
+      let later : map meant rs ≡ cells_from F (length rows + 1) more = cc in
       let few : length rows < F.most = omega arith in
-      let taken : U.judge (length rows + 1) (parts r) ≡ Ok a = takes_judged U F J (length rows) (parts r) a (record { is = meant_is r p.0 ∙ both.0; fair = f.0; few = few }) in
+      let taken : U.judge (length rows + 1) (parts r) ≡ Ok a = takes_judged U F J (length rows) (parts r) a (record { is = meant_is r p.0 ∙ this; fair = f.0; few = few }) in
       ap (λ x. judged x rows (after U n (onto (map parts rs) t))) taken
-      ∙ rows_taken rs more n t (rows ++ a ∷ []) p.1 (both.1 ∙ ap (λ k. cells_from F k more) (sym (length_push rows a))) f.1 (omega (arith, length_push rows a))
+      ∙ rows_taken rs more n t (rows ++ a ∷ []) p.1 (later ∙ ap (λ k. cells_from F k more) (sym (length_push rows a))) f.1 (omega (arith, length_push rows a))
       ∙ ap (after U n t) (append_assoc rows (a ∷ []) more)
 
   -- records in order are taken, whatever is told after them
   lists_taken : (rs : List W.Row) (rows : List A) (n : ℕ) (t : Told) → AllByRecursion W.Proper rs → Lists F rs rows → first U n (onto (map parts rs) t) ≡ after U n t rows
-  lists_taken [] rows n t p l = let e = l.cells in let z : ◌≡◌ {A = ℕ} 0 1 = cc in clash z
+  lists_taken [] rows n t p l = let e = l.cells in cc
   lists_taken (r ∷ rs) rows n t p l =
-      let both = from_cons (meant r) F.head (map meant rs) (cells_from F 0 rows) l.cells in
+      let cells = l.cells in
+      let head : meant r ≡ F.head = cc in
+      let later : map meant rs ≡ cells_from F 0 rows = cc in
       let le : 0 + length rows ≤ F.most = omega (arith, l.few) in
-      ap (λ b. cond b (after U n (onto (map parts rs) t) []) (refused R.FieldCount 0)) (J.true_heads (parts r) (meant_is r p.0 ∙ both.0))
-      ∙ rows_taken rs rows n t [] p.1 both.1 l.fair le
+      ap (λ b. cond b (after U n (onto (map parts rs) t) []) (refused R.FieldCount 0)) (J.true_heads (parts r) (meant_is r p.0 ∙ head))
+      ∙ rows_taken rs rows n t [] p.1 later l.fair le
 
   table_taken : (s : List ℕ) (x : W.Table) (rows : List A) → W.Whole x → s ≡ W.text x → Lists F (W.rows x) rows → verdict U s ≡ after U (length s) done rows
   table_taken s x rows w e l =
@@ -168,9 +168,6 @@ module _ {A : Type 0} (U : Rules A) (F : Form A) (J : Judges U F) where
   all_written s rows w =
       let enough : U.least ≤ length rows = subst (λ x. x ≤ length rows) (sym J.least_is) w.enough in
       table_taken s w.table rows w.whole w.text w.lists ∙ ap (λ b. cond b (refused R.RowCount (length rows)) (table rows)) (le-ltb (length rows) U.least enough)
-
-  same_table : (rows others : List A) → table rows ≡ table others → rows ≡ others
-  same_table rows others e = cc
 
   -- ---- what has a first fault is refused for it
 
@@ -253,7 +250,7 @@ module _ {A : Type 0} (U : Rules A) (F : Form A) (J : Judges U F) where
       record {
         only_written = λ s rows e. subst (Says s) e (says s);
         all_written = all_written;
-        one_writing = λ s rows others v w. same_table rows others (sym (all_written s rows v) ∙ all_written s others w);
+        one_writing = λ s rows others v w. let same = sym (all_written s rows v) ∙ all_written s others w in cc;
       }
 
   refused_at_first_fault : RefusedAtFirstFault U F

@@ -41,17 +41,14 @@ abbrev pub Judged : {A : Type 0} → Form A → ℕ → List (List ℕ) → Resu
 Judged F k cs (Ok a) = Takes F k cs a
 Judged F k cs (Err r) = Breaks F k cs r
 
-clash : {P : Type 0} → ◌≡◌ {A = ℕ} 0 1 → P
-clash e = absurd (omega arith)
-
 not_form : {A : Type 0} (p q : Bool) (a : A) → settled p q a ≡ Err R.FieldForm → ⊥
-not_form true true a e = let z : ◌≡◌ {A = ℕ} 0 1 = cc in clash z
-not_form true false a e = let z : ◌≡◌ {A = ℕ} 0 1 = cc in clash z
-not_form false q a e = let z : ◌≡◌ {A = ℕ} 0 1 = cc in clash z
+not_form true true a e = cc
+not_form true false a e = cc
+not_form false q a e = cc
 
 not_ends : {A : Type 0} (p : Bool) (a : A) → settled p true a ≡ Err R.LineEnds → ⊥
-not_ends true a e = let z : ◌≡◌ {A = ℕ} 0 1 = cc in clash z
-not_ends false a e = let z : ◌≡◌ {A = ℕ} 0 1 = cc in clash z
+not_ends true a e = cc
+not_ends false a e = cc
 
 same_number : (i k : ℕ) → spelled i ≡ spelled k → i ≡ k
 same_number i k e =

@@ -1,4 +1,5 @@
 mod Reading
+mod Fielded
 pub mod Ranges
 pub mod Values
 pub mod Judging

@@ -23,61 +23,55 @@ need_cases (Some x) f h = h x refl
 pub field_is : (ps xs : List (List ℕ)) (i : ℕ) → map meaning ps ≡ xs → i < length ps → field ps i ≡ get_or xs i []
 field_is ps xs i h lt = sym (get_or-map meaning ps i [] [] lt) ∙ ap (λ l. get_or l i []) h
 
-none_some : {A P : Type 0} (x : A) → None ≡ Some x → P
-none_some x e = let z : ◌≡◌ {A = ℕ} 0 1 = cc in absurd (omega arith)
-
-same_some : {A : Type 0} (x y : A) → Some x ≡ Some y → x ≡ y
-same_some x y e = cc
-
 -- ---- what is read is written so
 
 limited_some : (most : ℕ) (o : Option ℕ) (n : ℕ) → limited most o ≡ Some n → (o ≡ Some n) × (n ≤ most)
-limited_some most None n e = none_some n e
+limited_some most None n e = cc
 limited_some most (Some m) n e =
     ⊎_elim
-    (λ h. let q = same_some m n (rw h at e) in let l = leb-true m most h in (ap {B = Option ℕ} (λ x. Some x) q, omega arith))
-    (λ h. none_some n (rw h at e))
+    (λ h. let is = rw h at e in let q : m ≡ n = cc in let l = leb-true m most h in (ap {B = Option ℕ} (λ x. Some x) q, omega arith))
+    (λ h. let no = rw h at e in cc)
     (cases_Bool (leb m most))
 
 limitedℤ_some : (o : Option ℤ) (z : ℤ) → limitedℤ o ≡ Some z → (o ≡ Some z) × (nat_abs z ≤ 1000000000)
-limitedℤ_some None z e = none_some z e
+limitedℤ_some None z e = cc
 limitedℤ_some (Some (pos n)) z e =
     ⊎_elim
-    (λ h. let q = same_some (pos n) z (rw h at e) in (ap {B = Option ℤ} (λ x. Some x) q, subst (λ (x : ℤ). nat_abs x ≤ 1000000000) q (leb-true n 1000000000 h)))
-    (λ h. none_some z (rw h at e))
+    (λ h. let is = rw h at e in let q : pos n ≡ z = cc in (ap {B = Option ℤ} (λ x. Some x) q, subst (λ (x : ℤ). nat_abs x ≤ 1000000000) q (leb-true n 1000000000 h)))
+    (λ h. let no = rw h at e in cc)
     (cases_Bool (leb n 1000000000))
 limitedℤ_some (Some (negsuc n)) z e =
     ⊎_elim
-    (λ h. let q = same_some (negsuc n) z (rw h at e) in (ap {B = Option ℤ} (λ x. Some x) q, subst (λ (x : ℤ). nat_abs x ≤ 1000000000) q (ltb-true n 1000000000 h)))
-    (λ h. none_some z (rw h at e))
+    (λ h. let is = rw h at e in let q : negsuc n ≡ z = cc in (ap {B = Option ℤ} (λ x. Some x) q, subst (λ (x : ℤ). nat_abs x ≤ 1000000000) q (ltb-true n 1000000000 h)))
+    (λ h. let no = rw h at e in cc)
     (cases_Bool (ltb n 1000000000))
 
 marked_some : (o : Option ℕ) (u : Bool) → marked o ≡ Some u → o ≡ Some (mark u)
-marked_some None u e = none_some u e
+marked_some None u e = cc
 marked_some (Some n) u e =
     ⊎_elim
-    (λ h. ap {B = Option ℕ} (λ x. Some x) (eqb-true n 0 h ∙ ap mark (same_some false u (rw h at e))))
+    (λ h. let is = rw h at e in let q : false ≡ u = cc in ap {B = Option ℕ} (λ x. Some x) (eqb-true n 0 h ∙ ap mark q))
     (λ h.
     let f = rw h at e in
     ⊎_elim
-    (λ g. ap {B = Option ℕ} (λ x. Some x) (eqb-true n 1 g ∙ ap mark (same_some true u (rw g at f))))
-    (λ g. none_some u (rw g at f))
+    (λ g. let is = rw g at f in let q : true ≡ u = cc in ap {B = Option ℕ} (λ x. Some x) (eqb-true n 1 g ∙ ap mark q))
+    (λ g. let no = rw g at f in cc)
     (cases_Bool (eqb n 1)))
     (cases_Bool (eqb n 0))
 
 pub hold_read : (w : List ℕ) (o : Hold) → hold_from w ≡ Some o → w ≡ word o
 hold_read w o e =
     ⊎_elim
-    (λ h. (bytes_eq-Decides w (codes "free")).0 h ∙ ap word (same_some H.Free o (rw h at e)))
+    (λ h. let is = rw h at e in let q : H.Free ≡ o = cc in (bytes_eq-Decides w (codes "free")).0 h ∙ ap word q)
     (λ h.
     let f = rw h at e in
     ⊎_elim
-    (λ g. (bytes_eq-Decides w (codes "open")).0 g ∙ ap word (same_some H.Open o (rw g at f)))
+    (λ g. let is = rw g at f in let q : H.Open ≡ o = cc in (bytes_eq-Decides w (codes "open")).0 g ∙ ap word q)
     (λ g.
     let k = rw g at f in
     ⊎_elim
-    (λ j. (bytes_eq-Decides w (codes "shut")).0 j ∙ ap word (same_some H.Shut o (rw j at k)))
-    (λ j. none_some o (rw j at k))
+    (λ j. let is = rw j at k in let q : H.Shut ≡ o = cc in (bytes_eq-Decides w (codes "shut")).0 j ∙ ap word q)
+    (λ j. let no = rw j at k in cc)
     (cases_Bool (bytes_eq w (codes "shut"))))
     (cases_Bool (bytes_eq w (codes "open"))))
     (cases_Bool (bytes_eq w (codes "free")))

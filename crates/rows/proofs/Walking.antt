@@ -12,9 +12,6 @@ use Rattle.tables.proofs.Sweep.{lines_push}
 use Rattle.rows.specs.Faults.{After, Next}
 use Rattle.rows.specs.Written.{meant}
 
-pub clash : {P : Type 0} → ◌≡◌ {A = ℕ} 0 1 → P
-clash e = absurd (omega arith)
-
 -- ---- from the parts of a record to what its fields mean
 
 means_all : (fs : List W.Field) → AllByRecursion W.Allowed fs → map meaning (map W.bytes fs) ≡ map W.contents fs
@@ -33,9 +30,6 @@ some_rows (W.ended rs) h = h.1
 some_rows (W.cut rs r) h = omega (arith, length-append rs (r ∷ []))
 
 -- ---- the next record
-
-from_row : (ps qs : List (List ℕ)) (t u : Told) → row ps t ≡ row qs u → t ≡ u
-from_row ps qs t u e = cc
 
 -- a record that is there is told
 pub next_told : (rest : List ℕ) (r : W.Row) → Next rest r → (t : Told) × (whole rest ≡ row (parts r) t)
@@ -61,8 +55,8 @@ told_next rest ps t e =
       next = record { proper = o.1; there = o.3 };
       is = o.2;
       left = ⊎_elim
-          (λ x. inl (x.0, x.1, from_row ps (parts r) t (again x.0) (sym e ∙ ap whole x.1 ∙ lines_whole r [] (o.1, tt) x.0)))
-          (λ x. inr (x, from_row ps (parts r) t done (sym e ∙ ap whole x ∙ complete (W.cut [] r) (tt, o.1, inl refl))))
+          (λ x. let both = sym e ∙ ap whole x.1 ∙ lines_whole r [] (o.1, tt) x.0 in let left : t ≡ again x.0 = cc in inl (x.0, x.1, left))
+          (λ x. let both = sym e ∙ ap whole x ∙ complete (W.cut [] r) (tt, o.1, inl refl) in let left : t ≡ done = cc in inr (x, left))
           o.3;
     }
 
@@ -75,16 +69,16 @@ over_rest [] e = refl
 over_rest (b ∷ s) e = absurd (not_over (b ∷ s) e)
 
 pub stuck_rest : (rest q : List ℕ) → again rest ≡ stuck q → whole rest ≡ stuck q
-stuck_rest [] q e = let z : ◌≡◌ {A = ℕ} 0 1 = cc in clash z
+stuck_rest [] q e = cc
 stuck_rest (b ∷ s) q e = e
 
 pub row_rest : (rest : List ℕ) (ps : List (List ℕ)) (t : Told) → again rest ≡ row ps t → (whole rest ≡ row ps t) × (0 < length rest)
-row_rest [] ps t e = let z : ◌≡◌ {A = ℕ} 0 1 = cc in clash z
+row_rest [] ps t e = cc
 row_rest (b ∷ s) ps t e = (e, omega arith)
 
 -- where the reading is stuck, no record is
 pub no_next : (rest q : List ℕ) → whole rest ≡ stuck q → (r : W.Row) → Next rest r → ⊥
-no_next rest q e r n = let f = next_told rest r n in let g : stuck q ≡ row (parts r) f.0 = sym e ∙ f.1 in let z : ◌≡◌ {A = ℕ} 0 1 = cc in clash z
+no_next rest q e r n = let f = next_told rest r n in let g : stuck q ≡ row (parts r) f.0 = sym e ∙ f.1 in cc
 
 -- ---- the records before it
 

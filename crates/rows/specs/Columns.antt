@@ -1,11 +1,10 @@
--- The parts of a record: six tell what all do, and how many are held.
-use Rattle.std.specs.Prelude.{◌≡◌, ℕ, ◌<◌, ◌≤◌, true, false, List, [], map, length, take, ◌==◌, ◌≢◌, nat_eq}
+-- The parts of a record: six tell what all do, and where they are as many as they should be, they are judged one by one.
+use Rattle.std.specs.Prelude.{◌≡◌, ℕ, ◌<◌, ◌≤◌, cond, List, [], length, take, Err, Result, ◌==◌, nat_eq, nat_lt, refl}
 use Rattle.std.proofs.Common.{sym, ap, ◌∙◌, ⊎_elim, arith}
-use Rattle.std.specs.Borrow.{Bor}
-use Rattle.std.proofs.lemmas.Bool.{cases_lt, ne_eqb, eq-eqb}
-use Rattle.std.proofs.lemmas.List.{length-take-le, length-map, get_or-take, take_all}
-use Rattle.tables.specs.declared.grammar.Fields.{Fields}
-use Rattle.tables.specs.Reads.{Room, held}
+use Rattle.std.proofs.lemmas.Bool.{cases_lt, eq-eqb, le-ltb, ne_eqb}
+use Rattle.std.proofs.lemmas.List.{length-take-le, get_or-take, take_all}
+use Rattle.plant.specs.declared.refusal.Reason.{Reason}
+use Rattle.plant.specs.declared.refusal.Reason.TheVariants.{FieldCount, RowCount}
 use Rattle.tables.specs.Laws.{meaning}
 use Rattle.rows.specs.Fields.{field}
 
@@ -22,11 +21,6 @@ columns_six n few ps =
 pub field_six : (ps : List (List ℕ)) (i : ℕ) → i < 6 → field (take 6 ps) i ≡ field ps i
 field_six ps i h = ap meaning (get_or-take 6 ps i [] h)
 
-held_length : (f : Fields) → Room f → length (held f) ≡ f.count
-held_length f r = let le : f.count ≤ length (map (λ (p : Bor (List ℕ)). p.now) f.parts) = omega (arith, length-map f.parts (λ (p : Bor (List ℕ)). p.now)) in length-take-le f.count (map (λ (p : Bor (List ℕ)). p.now) f.parts) le
-
-pub as_many : (n : ℕ) (f : Fields) → Room f → f.count ≡ n → (length (held f) == n) ≡ true
-as_many n f r e = eq-eqb (length (held f)) n (held_length f r ∙ e)
-
-pub not_as_many : (n : ℕ) (f : Fields) → Room f → (f.count ≢ n) → (length (held f) == n) ≡ false
-not_as_many n f r e = let m : length (held f) ≡ n → ⊥ = omega (arith, held_length f r) in ne_eqb (length (held f)) n m
+-- a record of the right count, up to the most, is judged by its fields
+pub right_columns : {A : Type 0} (most columns k : ℕ) (ps : List (List ℕ)) (r : Result A Reason) → k ≤ most → length ps ≡ columns → cond (nat_lt most k) (Err RowCount) (cond (length ps == columns) r (Err FieldCount)) ≡ r
+right_columns most columns k ps r h n = rw (le-ltb most k h, eq-eqb (length ps) columns n) refl

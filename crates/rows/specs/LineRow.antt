@@ -1,18 +1,16 @@
 -- A record of the lines' table: its numbers may be read capped, and six of its parts tell what all do.
-use Rattle.std.specs.Prelude.{◌≡◌, ℕ, ◌+◌, ◌≤◌, min, Bool, false, cond, not, ◌&&◌, List, length, ℤ, Some, None, Ok, Err, Option, Result, ◌==◌, ◌≢◌, nat_lt, refl}
+use Rattle.std.specs.Prelude.{◌≡◌, ℕ, ◌+◌, ◌<◌, ◌≤◌, min, Bool, false, cond, not, ◌&&◌, List, length, ℤ, Some, None, Ok, Err, Option, Result, ◌==◌, nat_lt, refl}
 use Rattle.std.proofs.Common.{sym, ap, ◌∙◌, ⊎_elim, arith}
-use Rattle.std.proofs.lemmas.Bool.{cases_Bool, cases_lt, le-ltb, ltb-false}
+use Rattle.std.proofs.lemmas.Bool.{cases_Bool, cases_lt, le-ltb, lt-ltb}
 use Rattle.plant.specs.declared.records.Line.{Line}
 use Rattle.plant.specs.declared.refusal.Reason.{Reason}
 use Rattle.plant.specs.declared.refusal.Reason.TheVariants as R
-use Rattle.tables.specs.declared.grammar.Fields.{Fields}
-use Rattle.tables.specs.Reads.{Room, held}
 use Rattle.tables.specs.Numerals.{numeral, signed_by, capped}
 use Rattle.rows.specs.Fields.{cap, limitedℤ, need, field}
-use Rattle.rows.specs.Lines.{titled, apart, line_by, judge_by, heads, lines}
+use Rattle.rows.specs.Lines.{titled, apart, line_by, judge_by, lines}
 use Rattle.rows.specs.Verdict.{Lawful}
 use Rattle.rows.specs.Plain.{signed_capped, need_capped}
-use Rattle.rows.specs.Columns.{columns_six, field_six, as_many, not_as_many}
+use Rattle.rows.specs.Columns.{columns_six, field_six, right_columns}
 
 -- past every station a number names none, capped or not
 past : (n : ℕ) → n ≤ 64 → (f t : ℕ) → 1000000001 ≤ f → apart n f t ≡ false
@@ -24,7 +22,7 @@ past_second n h f t ge =
     ap (λ b. nat_lt f n && (b && not (f == t))) (le-ltb t n p) ∙ ⊎_elim (λ e. ap (λ b. b && false) e) (λ e. ap (λ b. b && false) e) (cases_Bool (nat_lt f n))
 
 -- what becomes of two ends
-abbrev ended : ℕ → ℤ → ℕ → ℕ → Result Line Reason
+abbrev pub ended : ℕ → ℤ → ℕ → ℕ → Result Line Reason
 ended n g f t = cond (apart n f t) (Ok (record { from = f; to = t; gain = g })) (Err R.LineEnds)
 
 ended_first : (n : ℕ) → n ≤ 64 → (g : ℤ) (f t : ℕ) → ended n g (min f 1000000001) t ≡ ended n g f t
@@ -65,31 +63,24 @@ row_capped n k few h a b c d =
 abbrev of : (List ℕ → Option ℕ) → ℕ → ℕ → List (List ℕ) → Result Line Reason
 of num n k ps = line_by num n k (field ps 0) (field ps 1) (field ps 2) (field ps 3)
 
-pub wrong_count : (n k : ℕ) (f : Fields) → Room f → k ≤ 128 → (f.count ≢ 4) → judge_by numeral n k (held f) ≡ Err R.FieldCount
-wrong_count n k f r h m = rw (le-ltb 128 k h, not_as_many 4 f r m) refl
+pub right_count : (n k : ℕ) (ps : List (List ℕ)) → n ≤ 64 → k ≤ 128 → length ps ≡ 4 → of cap n k ps ≡ judge_by numeral n k ps
+right_count n k ps few h m =
+    row_capped n k few h (field ps 0) (field ps 1) (field ps 2) (field ps 3)
+    ∙ sym (right_columns 128 4 k ps (of numeral n k ps) h m)
 
-pub right_count : (n k : ℕ) (f : Fields) → n ≤ 64 → Room f → k ≤ 128 → f.count ≡ 4 → of cap n k (held f) ≡ judge_by numeral n k (held f)
-right_count n k f few r h m =
-    row_capped n k few h (field (held f) 0) (field (held f) 1) (field (held f) 2) (field (held f) 3)
-    ∙ sym (ap (λ t. cond t (Err R.RowCount) (cond (length (held f) == 4) (of numeral n k (held f)) (Err R.FieldCount))) (le-ltb 128 k h) ∙ ap (λ t. cond t (of numeral n k (held f)) (Err R.FieldCount)) (as_many 4 f r m))
+-- the fields read one by one
+abbrev pub line_from : ℕ → ℕ → Option ℕ → Option ℕ → Option ℕ → Option ℤ → Result Line Reason
+line_from n k place from to gain =
+    need place (λ i. need from (λ f. need to (λ t. need gain (λ g. cond (i + 1 == k) (ended n g f t) (Err R.RowNumber)))))
 
-pub no_header : (f : Fields) → Room f → (f.count ≢ 4) → heads (held f) ≡ false
-no_header f r n = ap (λ t. t && titled (field (held f) 0) (field (held f) 1) (field (held f) 2) (field (held f) 3)) (not_as_many 4 f r n)
+full : (n k : ℕ) (ps : List (List ℕ)) → 128 < k → judge_by numeral n k ps ≡ Err R.RowCount
+full n k ps h = rw (lt-ltb 128 k h) refl
 
-pub header_is : (f : Fields) → Room f → f.count ≡ 4 → heads (held f) ≡ titled (field (held f) 0) (field (held f) 1) (field (held f) 2) (field (held f) 3)
-header_is f r n = ap (λ t. t && titled (field (held f) 0) (field (held f) 1) (field (held f) 2) (field (held f) 3)) (as_many 4 f r n)
-
-few : (n k : ℕ) (ps : List (List ℕ)) (l : Line) → Ok l ≡ judge_by numeral n k ps → k ≤ 128
-few n k ps l e =
-    ⊎_elim
-    (λ h. let f : Ok l ≡ Err R.RowCount = e ∙ ap (λ t. cond t (Err R.RowCount) (cond (length ps == 4) (of numeral n k ps) (Err R.FieldCount))) h in let z : ◌≡◌ {A = ℕ} 0 1 = cc in absurd (omega arith))
-    (λ h. ltb-false 128 k h)
-    (cases_Bool (nat_lt 128 k))
-
-pub lawful : (n : ℕ) → Lawful (lines n) 128
+pub lawful : (n : ℕ) → Lawful (lines n) 1 128
 lawful n =
     record {
       heads_six = λ ps i. columns_six 4 (omega arith) ps i && titled (field_six ps 0 (omega arith) i) (field_six ps 1 (omega arith) i) (field_six ps 2 (omega arith) i) (field_six ps 3 (omega arith) i);
       judge_six = λ k ps i. cond (nat_lt 128 k) (Err R.RowCount) (cond (columns_six 4 (omega arith) ps i) (line_by numeral n k (field_six ps 0 (omega arith) i) (field_six ps 1 (omega arith) i) (field_six ps 2 (omega arith) i) (field_six ps 3 (omega arith) i)) (Err R.FieldCount));
-      few = few n;
+      full = full n;
+      least_is = refl;
     }

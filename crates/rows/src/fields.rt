@@ -33,19 +33,13 @@ fn signed_number(part: &[u8]) -> Option<i64>
 pub(crate) fn hours_of(part: &[u8]) -> Option<u32>
     ensures { result ≡ limited 1000 (cap (meaning part.now)) }
 {
-    match number(part) {
-        Some(n) if n <= MAX_HOURS => Some(n),
-        _ => None,
-    }
+    number(part).filter(|n| *n <= MAX_HOURS)
 }
 
 pub(crate) fn gain_of(part: &[u8]) -> Option<i64>
     ensures { result ≡ limitedℤ (signed_by cap (meaning part.now)) }
 {
-    match signed_number(part) {
-        Some(n) if -MAX_GAIN <= n && n <= MAX_GAIN => Some(n),
-        _ => None,
-    }
+    signed_number(part).filter(|n| -MAX_GAIN <= *n && *n <= MAX_GAIN)
 }
 
 pub(crate) fn mark_of(part: &[u8]) -> Option<bool>
@@ -61,13 +55,10 @@ pub(crate) fn mark_of(part: &[u8]) -> Option<bool>
 pub(crate) fn hold_of(part: &[u8]) -> Option<Hold>
     ensures { result ≡ hold_from (meaning part.now) }
 {
-    if is(part, "free") {
-        Some(Hold::Free)
-    } else if is(part, "open") {
-        Some(Hold::Open)
-    } else if is(part, "shut") {
-        Some(Hold::Shut)
-    } else {
-        None
+    match inner(part) {
+        b"free" => Some(Hold::Free),
+        b"open" => Some(Hold::Open),
+        b"shut" => Some(Hold::Shut),
+        _ => None,
     }
 }

@@ -7,3 +7,4 @@ pub mod laws;
 pub mod lines;
 pub mod read;
 pub mod stations;
+pub mod text;

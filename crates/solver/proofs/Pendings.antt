@@ -163,6 +163,3 @@ module _ {F : Type 0} (nil : F) (plus : F → F → F) (f : Station → F) (g : 
     complete = λ S traces agrees. traces top (inl refl);
     light = omega arith;
   }
-
-  pub pending_end : (marks : List Bool) → Pending nil plus f g p cells top [] marks → Traced nil plus f g p cells top (λ i. get_or marks i false)
-  pending_end marks h = h.complete (λ i. get_or marks i false) (λ e i. absurd i) (λ i outside. refl)

@@ -23,7 +23,7 @@ use Rattle.cells.proofs.Writing.{first_inside, second_inside, first_inside_paral
 use Rattle.joins.specs.declared.cell.Spot.{Spot}
 use Rattle.solver.specs.declared.split.Split.{Split}
 use Rattle.solver.specs.Pending.{settled, first_spot, second_spot, load, tree_at, leaves_at, size_at, Entry, Pending, Holds, with_ends}
-use Rattle.filling.specs.Sites.{site, scores, tree, middle, Ready, Filled, HalvesAt}
+use Rattle.filling.specs.Sites.{site, scores, tree, middle, Filled, HalvesAt}
 use Rattle.solver.specs.Splits.{FirstSplit}
 use Rattle.solver.proofs.Pendings.{in_new, load_more, pending_join, pending_leaf}
 use Rattle.filling.proofs.Standing.{sub_stands, whole, root_tree, root_in, some_nodes}
@@ -140,7 +140,7 @@ module _ (N : Site) (A B : Tree) where
 
 -- ---- the step
 
-module _ {F : Type 0} (nil : F) (plus : F → F → F) (f : Station → F) (g : Line → F) (p : Plant) (ready : Ready p) (cells : List (Option F)) (top : Spot) (xs : List Spot) (x : Spot) (marks : List Bool)
+module _ {F : Type 0} (nil : F) (plus : F → F → F) (f : Station → F) (g : Line → F) (p : Plant) (cells : List (Option F)) (top : Spot) (xs : List Spot) (x : Spot) (marks : List Bool)
     (old : Pending nil plus f g p cells top (xs ++ x ∷ []) marks) where
   -- a leaf takes no hours
   pub step_leaf : (above : F → F → Bool) (sz : F → ℕ) → Laws f g nil plus above sz → Filled nil plus above f g p cells (length p.nodes.now) → (k : ℕ) → tree_at p x ≡ leaf k → Pending nil plus f g p cells top xs marks
@@ -159,7 +159,7 @@ module _ {F : Type 0} (nil : F) (plus : F → F → F) (f : Station → F) (g : 
     B = sub (tree p) b
 
     stands : Builds (site p).net (joined j A B)
-    stands = subst (Builds (site p).net) at.tree_is (sub_stands p ready x.node)
+    stands = subst (Builds (site p).net) at.tree_is (sub_stands p x.node)
 
     abbrev one : Spot
     one = first_spot j a x s
@@ -183,7 +183,7 @@ module _ {F : Type 0} (nil : F) (plus : F → F → F) (f : Station → F) (g : 
     ends_here = (subst (λ (t : Tree). get_or marks (left (site p).net t) false ≡ x.left) at.tree_is here.at_left, subst (λ (t : Tree). get_or marks (right (site p).net t) false ≡ x.right) at.tree_is here.at_right)
 
     mid_in : right (site p).net A < length marks
-    mid_in = omega (arith, at.middle_is, at.middle_in, ready.plant.few_stations, old.wide)
+    mid_in = omega (arith, at.middle_is, at.middle_in, p.drawn.few_stations, old.wide)
 
     entry_one : Entry p cells after one
     entry_one = subst (λ (ms : List Bool). Entry p cells ms one) (sym after_is) (record {
@@ -236,30 +236,30 @@ module _ {F : Type 0} (nil : F) (plus : F → F → F) (f : Station → F) (g : 
 
 -- ---- the first cell
 
-module _ {F : Type 0} (p : Plant) (ready : Ready p) (cells : List (Option F)) (top : Spot) (at : top.node ≡ root p) where
+module _ {F : Type 0} (p : Plant) (cells : List (Option F)) (top : Spot) (at : top.node ≡ root p) where
   top_tree : tree_at p top ≡ tree p
-  top_tree = ap (sub (tree p)) at ∙ root_tree p ready
+  top_tree = ap (sub (tree p)) at ∙ root_tree p
 
   pub top_wide : length (with_ends p top) ≡ 64
   top_wide = length-set (set (replicate 64 false) (left (site p).net (tree p)) top.left) (right (site p).net (tree p)) top.right ∙ length-set (replicate 64 false) (left (site p).net (tree p)) top.left ∙ length-replicate 64 false
 
   pub top_light : leaves_at p top ≤ 128
-  top_light = omega (arith, ap leaves top_tree, whole_leaves (site p) (length p.stations.now) (length p.lines.now) (tree p) (whole p ready), ready.plant.few_lines)
+  top_light = omega (arith, ap leaves top_tree, whole_leaves (site p) (length p.stations.now) (length p.lines.now) (tree p) (whole p), p.drawn.few_lines)
 
   pub top_entry : top.hours ≤ p.budget → Holds p cells top → Entry p cells (with_ends p top) top
   top_entry le held =
       let L = left (site p).net (tree p) in
       let R = right (site p).net (tree p) in
-      let in_marks = root_in p ready in
+      let in_marks = root_in p in
       let one = set (replicate 64 false) L top.left in
       let long : length one ≡ 64 = length-set (replicate 64 false) L top.left ∙ length-replicate 64 false in
       let bare : length (replicate 64 false) ≡ 64 = length-replicate 64 false in
-      let differ : L ≡ R → ⊥ = ends_differ (site p).net (tree p) (whole p ready).builds in
+      let differ : L ≡ R → ⊥ = ends_differ (site p).net (tree p) (whole p).builds in
       record {
-        within = omega (arith, at, some_nodes p ready);
+        within = omega (arith, at, some_nodes p);
         hours = le;
         goal = held.0;
         holds = held.1;
-        at_left = ap (λ (t : Tree). get_or (with_ends p top) (left (site p).net t) false) top_tree ∙ get_or-set_other one R L top.right false differ ∙ get_or-set_same (replicate 64 false) L top.left false (omega (arith, ready.plant.few_stations));
-        at_right = ap (λ (t : Tree). get_or (with_ends p top) (right (site p).net t) false) top_tree ∙ get_or-set_same one R top.right false (omega (arith, ready.plant.few_stations));
+        at_left = ap (λ (t : Tree). get_or (with_ends p top) (left (site p).net t) false) top_tree ∙ get_or-set_other one R L top.right false differ ∙ get_or-set_same (replicate 64 false) L top.left false (omega (arith, p.drawn.few_stations));
+        at_right = ap (λ (t : Tree). get_or (with_ends p top) (right (site p).net t) false) top_tree ∙ get_or-set_same one R top.right false (omega (arith, p.drawn.few_stations));
       }

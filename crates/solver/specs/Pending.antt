@@ -14,6 +14,9 @@ use Rattle.cells.specs.Tables.{memory}
 use Rattle.cells.specs.Traces.{Traces}
 use Rattle.joins.specs.declared.cell.Spot.{Spot}
 use Rattle.solver.specs.declared.split.Split.{Split}
+use Rattle.yardsticks.specs.declared.yardstick.Yardstick.{Ghosts}
+use Rattle.filling.specs.declared.joint.Joint.{Joint}
+use Rattle.filling.specs.declared.tables.Tables.{Tables}
 use Rattle.filling.specs.Sites.{site, scores, tree}
 use Rattle.solver.specs.Splits.{FirstSplit}
 
@@ -85,6 +88,16 @@ Holds {F} p cells e = (goal : F) × (memory (p.budget + 1) cells e.node e.left e
 abbrev pub SplitOf : {F : Type 0} → F → (F → F → F) → (Station → F) → (Line → F) → Plant → List (Option F) → Join → ℕ → ℕ → Spot → Split → Type 0
 SplitOf {F} nil plus f g p cells j a b e s =
     (goal : F) × (memory (p.budget + 1) cells e.node e.left e.right e.hours ≡ Some goal) × FirstSplit nil plus f g p cells j a b e.left e.right e.hours goal s
+
+-- the same in tables that are lent with their yardstick
+abbrev pub TracedIn : {Y F : Type 0} {y : Ghosts Y F} → Tables Y F y → Spot → Selection → Type 0
+TracedIn {y} t e S = Traced y.nil y.plus y.station y.line t.plant.now t.cells.now e S
+
+abbrev pub PendingIn : {Y F : Type 0} {y : Ghosts Y F} → Tables Y F y → Spot → List Spot → List Bool → Type 0
+PendingIn {y} t top stack marks = Pending y.nil y.plus y.station y.line t.plant.now t.cells.now top stack marks
+
+abbrev pub SplitsCell : {Y F : Type 0} {y : Ghosts Y F} → Joint Y F y → Split → Type 0
+SplitsCell {y} c s = SplitOf y.nil y.plus y.station y.line c.tables.now.plant.now c.tables.now.cells.now c.join c.first c.second c.spot s
 
 -- the two ends of the plant in the states of the root's cell, and nothing else
 abbrev pub with_ends : Plant → Spot → List Bool

@@ -7,12 +7,13 @@ use Rattle.plant.specs.declared.refusal.Part.TheVariants.{Call}
 use Rattle.plant.specs.declared.refusal.Refusal.{Refusal}
 use Rattle.plant.specs.declared.selection.Selection.{Selection as Marks}
 use Rattle.plant.specs.declared.site.Plant.{Plant}
-use Rattle.plant.specs.Selections.{Selection, among, Wide, Fits}
+use Rattle.plant.specs.Selections.{Selection, among, Fits}
 use Rattle.cells.specs.Best.{Best}
 use Rattle.cells.specs.Cell.{CellChoice}
 use Rattle.cells.specs.Subtrees.{sub}
 use Rattle.cells.specs.Tables.{place, need_of}
 use Rattle.cells.specs.Tops.{Tops, cell_of}
+use Rattle.yardsticks.specs.declared.yardstick.Yardstick.{Ghosts}
 use Rattle.filling.specs.Sites.{tree}
 
 -- the number of cells that the plant needs
@@ -41,10 +42,13 @@ pub record Hopeless {F : Type 0} (nil : F) (plus : F → F → F) (above : F →
 -- there are enough cells, and this is the best list
 pub record Chosen {F : Type 0} (nil : F) (plus : F → F → F) (above : F → F → Bool) (f : Station → F) (g : Line → F) (p : Plant) (before after : List (Option F)) (s : Marks) : Type 0 where
   pub enough : needs p ≤ length before
-  pub wide : Wide s
   pub best : Best nil plus above f g p.stations.now p.lines.now (tree p) p.budget (among s)
   pub tables : Tables nil plus above f g p before after
 
 abbrev pub Solution : {F : Type 0} → F → (F → F → F) → (F → F → Bool) → (Station → F) → (Line → F) → Plant → List (Option F) → List (Option F) → Result Marks Refusal → Type 0
 Solution nil plus above f g p before after (Ok s) = Chosen nil plus above f g p before after s
 Solution nil plus above f g p before after (Err e) = TooShort p before after e ⊎ Hopeless nil plus above f g p before after e
+
+-- the same by a yardstick
+abbrev pub Solves : {Y F : Type 0} → Ghosts Y F → Plant → List (Option F) → List (Option F) → Result Marks Refusal → Type 0
+Solves y p before after r = Solution y.nil y.plus y.above y.station y.line p before after r

@@ -1,5 +1,5 @@
 -- Which splits of a join attain a figure, and which is the first. Assumes nothing.
-use Rattle.std.specs.Prelude.{◌≡◌, ℕ, ◌+◌, ◌-◌, Bool, true, cond, List, Option}
+use Rattle.std.specs.Prelude.{◌≡◌, ℕ, ◌+◌, ◌-◌, Bool, true, List, Option, MatchOption}
 use Rattle.plant.specs.declared.records.Station.{Station}
 use Rattle.plant.specs.declared.records.Line.{Line}
 use Rattle.plant.specs.declared.site.Plant.{Plant}
@@ -9,11 +9,13 @@ use Rattle.cells.specs.Tables.{memory}
 use Rattle.cells.specs.Traces.{Attains, Leads}
 use Rattle.joins.specs.declared.share.Share.{Share}
 use Rattle.solver.specs.declared.split.Split.{Split}
+use Rattle.yardsticks.specs.declared.yardstick.Yardstick.{Ghosts}
+use Rattle.filling.specs.declared.joint.Joint.{Joint}
 use Rattle.filling.specs.Sites.{site, scores, middle}
 
 -- how many splits there are through a share, where the indices of the halves and its hours add up to the total
 abbrev pub ways : {F : Type 0} → Share F → ℕ → ℕ
-ways s total = cond s.allowed (total + 1 - s.hours) 0
+ways s total = total + 1 - s.hours
 
 -- through the state m of the middle, i hours in the first half and i' in the second attain the goal
 abbrev pub PassAttains : {F : Type 0} → F → (F → F → F) → (Station → F) → (Line → F) → Plant → List (Option F) → Join → ℕ → ℕ → Bool → Bool → ℕ → F → Bool → ℕ → ℕ → Type 0
@@ -29,3 +31,9 @@ pub record FirstSplit {F : Type 0} (nil : F) (plus : F → F → F) (f : Station
 
 abbrev pub NoSplit : {F : Type 0} → F → (F → F → F) → (Station → F) → (Line → F) → Plant → List (Option F) → Join → ℕ → ℕ → Bool → Bool → ℕ → F → Type 0
 NoSplit nil plus f g p cells j a b l r h goal = (m : Bool) (i i' : ℕ) → PassAttains nil plus f g p cells j a b l r h goal m i i' → ⊥
+
+-- the first split of a cell of a join, if any
+abbrev pub SplitsJoint : {Y F : Type 0} {y : Ghosts Y F} → Joint Y F y → F → Option Split → Type 0
+SplitsJoint {y} c goal o =
+    MatchOption o (NoSplit y.nil y.plus y.station y.line c.tables.now.plant.now c.tables.now.cells.now c.join c.first c.second c.spot.left c.spot.right c.spot.hours goal)
+    (FirstSplit y.nil y.plus y.station y.line c.tables.now.plant.now c.tables.now.cells.now c.join c.first c.second c.spot.left c.spot.right c.spot.hours goal)

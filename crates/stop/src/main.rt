@@ -2,8 +2,8 @@
 #![tactic(auto)]
 
 use plan::Plan;
-use plan::sheet::refusal_line;
-use plan::words::InWords;
+use plan::script::SHEET_BYTES;
+use plan::sheet::{LINE_BYTES, refusal_line};
 use plant::refusal::{Part, Reason, Refusal};
 use std::io::{Read, Write};
 use std::process::ExitCode;
@@ -15,50 +15,32 @@ const CELLS: usize = 3_100;
 
 const LONGEST_TEXT: usize = 4_096;
 
-const SHEET_BYTES: usize = 1_400;
-
-const LINE_BYTES: usize = 64;
-
-// A file that cannot be read counts as no bytes.
+// A file that cannot be read counts as no bytes. The libraries reach no files, so each program has this.
 fn file(rt: &HostRuntime, path: &str) -> Vec<u8> {
-    match fs::read(rt, path) {
-        Ok(bytes) => bytes,
-        Err(_) => Vec::new(rt.alloc()),
-    }
+    fs::read(rt, path).unwrap_or_else(|_| Vec::new(rt.alloc()))
 }
 
-fn within(text: &[u8], part: Part) -> Result<(), Refusal> {
+// A text of the plant, which must not be too long for this program: its limit is not the library's.
+fn within(text: &[u8], part: Part) -> Result<&[u8], Refusal> {
     if text.len() > LONGEST_TEXT {
-        return Err(Refusal {
-            reason: Reason::TextTooLong,
-            part,
-            place: 0,
-        });
+        return Err(part.refusal(Reason::TextTooLong, 0));
     }
-    Ok(())
+    Ok(text)
 }
 
 fn fill(plan: &mut Plan, stations: &[u8], lines: &[u8], tree: &[u8]) -> Result<(), Refusal> {
-    within(stations, Part::Stations)?;
-    within(lines, Part::Lines)?;
-    within(tree, Part::Tree)?;
-    plan.fill(stations, lines, tree)
+    plan.fill(
+        within(stations, Part::Stations)?,
+        within(lines, Part::Lines)?,
+        within(tree, Part::Tree)?,
+    )
 }
 
 // The budget is a number, with a line feed after it or not.
 fn set_budget(plan: &mut Plan, input: &[u8]) -> Result<(), Refusal> {
-    let digits = match input {
-        [front @ .., b'\n'] => front,
-        all => all,
-    };
-    match natural(digits) {
-        Some(hours) => plan.set_hours(hours),
-        None => Err(Refusal {
-            reason: Reason::OutOfRange,
-            part: Part::Call,
-            place: 0,
-        }),
-    }
+    let digits = input.strip_suffix(b"\n").unwrap_or(input);
+    let hours = natural(digits).ok_or(Part::Call.refusal(Reason::OutOfRange, 0))?;
+    plan.set_hours(hours)
 }
 
 // Why there is no list.
@@ -80,44 +62,43 @@ impl From<io::Error> for Trouble {
     }
 }
 
-fn read_plan(rt: &HostRuntime, plan: &mut Plan) -> Result<(), Trouble> {
+fn read_plan(rt: &HostRuntime) -> Result<Plan, Trouble> {
+    let mut plan = Plan::blank();
     let stations = file(rt, "stations.csv");
     let lines = file(rt, "lines.csv");
     let tree = file(rt, "tree.nwk");
-    fill(plan, stations.as_slice(), lines.as_slice(), tree.as_slice())?;
+    fill(&mut plan, &stations, &lines, &tree)?;
     let mut input = Vec::new(rt.alloc());
     rt.stdin().read_to_end(&mut input)?;
-    set_budget(plan, input.as_slice())?;
-    Ok(())
+    set_budget(&mut plan, &input)?;
+    Ok(plan)
 }
 
 fn print_list(rt: &HostRuntime, plan: &Plan, cells: &mut [Option<i64>]) -> Result<(), Trouble> {
-    let pick = plan.solve(&Money {}, cells)?;
+    let pick = plan.solve(&Money, cells)?;
     let mut out = [0u8; SHEET_BYTES];
     let length = pick.sheet(&mut out)?;
-    rt.stdout().write_all(&out[0..length])?;
+    rt.stdout().write_all(&out[..length])?;
     Ok(())
 }
 
 fn work(rt: &HostRuntime, cells: &mut [Option<i64>]) -> Result<(), Trouble> {
-    let mut plan = Plan::blank();
-    read_plan(rt, &mut plan)?;
+    let plan = read_plan(rt)?;
     print_list(rt, &plan, cells)
 }
 
-// The refusal's line on the standard output, and its meaning on the standard error.
+// The refusal's line on the standard output, and its meaning on the standard error. The libraries print nothing, so each program has this.
 fn print_refusal(rt: &HostRuntime, refusal: Refusal) -> io::Result<()> {
     let mut out = [0u8; LINE_BYTES];
     if let Ok(length) = refusal_line(&refusal, &mut out) {
-        rt.stdout().write_all(&out[0..length])?;
+        rt.stdout().write_all(&out[..length])?;
     }
-    let words = InWords { refusal };
-    eprintln!(rt; "{words}")
+    eprintln!(rt; "{refusal}")
 }
 
 fn main(rt: HostRuntime) -> anyhow::Result<ExitCode> {
     let mut cells = vec![in rt.alloc(); None; CELLS]?;
-    match work(&rt, cells.as_mut_slice()) {
+    match work(&rt, &mut cells) {
         Ok(()) => Ok(ExitCode::SUCCESS),
         Err(Trouble::Refused(refusal)) => {
             print_refusal(&rt, refusal)?;

@@ -142,7 +142,7 @@ cut_run : (rs : List Row) (r : Row) → Whole (cut rs r) → whole (lines rs ++ 
 cut_run [] r h = last_run r h.1
 cut_run (q ∷ rs) r h =
     ⊎_elim
-    (λ e. let z : ◌≡◌ {A = ℕ} 0 1 = cc in absurd (omega arith))
+    (λ e. cc)
     (λ some. lines_whole q rs h.0 (line r) ∙ ap (onto (map parts (q ∷ rs))) (again_is (line r) some ∙ last_run r h.1) ∙ onto_row (map parts (q ∷ rs)) (parts r) ∙ ap told (sym (map-append parts (q ∷ rs) (r ∷ []))))
     h.2
 
@@ -150,20 +150,18 @@ pub complete : Complete
 complete (ended rs) h = ended_run rs h
 complete (cut rs r) h = cut_run rs r h
 
-from_row : (ps qs : List (List ℕ)) (t u : Told) → row ps t ≡ row qs u → (ps ≡ qs) × (t ≡ u)
-from_row ps qs t u e = (cc, cc)
-
 sound_on : (t : Told) (w : List ℕ) (rs : List Row) (pss : List (List (List ℕ))) → Tells w rs t → t ≡ told pss → (x : Table) × Whole x × (w ≡ text x) × (map parts rs ++ pss ≡ map parts (rows x))
 sound_on done w rs [] o e = (o.table, o.proper, o.is, append-nil (map parts rs) ∙ ap (map parts) o.same)
-sound_on done w rs (ps ∷ pss) o e = let z : ◌≡◌ {A = ℕ} 0 1 = cc in absurd (omega arith)
-sound_on (stuck q) w rs [] o e = let z : ◌≡◌ {A = ℕ} 0 1 = cc in absurd (omega arith)
-sound_on (stuck q) w rs (ps ∷ pss) o e = let z : ◌≡◌ {A = ℕ} 0 1 = cc in absurd (omega arith)
-sound_on (row qs t) w rs [] o e = let z : ◌≡◌ {A = ℕ} 0 1 = cc in absurd (omega arith)
+sound_on done w rs (ps ∷ pss) o e = cc
+sound_on (stuck q) w rs [] o e = cc
+sound_on (stuck q) w rs (ps ∷ pss) o e = cc
+sound_on (row qs t) w rs [] o e = cc
 sound_on (row qs t) w rs (ps ∷ pss) o e =
-    let both = from_row qs ps t (told pss) e in
+    let first : qs ≡ ps = cc in
+    let later : t ≡ told pss = cc in
     let r = o.0.r in
-    let x = sound_on t w (rs ++ r ∷ []) pss o.1 both.1 in
-    let same : map parts rs ++ ps ∷ pss ≡ map parts (rs ++ r ∷ []) ++ pss = ap (λ p. map parts rs ++ p ∷ pss) (sym both.0 ∙ o.0.same) ∙ sym (append_assoc (map parts rs) (parts r ∷ []) pss) ∙ ap (λ l. l ++ pss) (sym (map-append parts rs (r ∷ []))) in
+    let x = sound_on t w (rs ++ r ∷ []) pss o.1 later in
+    let same : map parts rs ++ ps ∷ pss ≡ map parts (rs ++ r ∷ []) ++ pss = ap (λ p. map parts rs ++ p ∷ pss) (sym first ∙ o.0.same) ∙ sym (append_assoc (map parts rs) (parts r ∷ []) pss) ∙ ap (λ l. l ++ pss) (sym (map-append parts rs (r ∷ []))) in
     (x.0, x.1, x.2, same ∙ x.3)
 
 pub sound : Sound
@@ -242,8 +240,7 @@ link_end S.Return p ps = refl
 
 link_move : (m : Move) (b : ℕ) (s p : List ℕ) (ps : List (List ℕ)) → ((st : State) (p : List ℕ) (ps : List (List ℕ)) → tell s st p ps ≡ follow (run s st p ps)) → move m b s p ps (tell s) ≡ follow (go m b s p ps (run s))
 link_move (M.Take st) b s p ps ih = ih st (p ++ b ∷ []) ps
-link_move M.Field b s p ps ih = ih S.Start [] (ps ++ p ∷ [])
-link_move M.Last b s p ps ih = ih S.Return [] (ps ++ p ∷ [])
+link_move (M.End st) b s p ps ih = ih st [] (ps ++ p ∷ [])
 link_move M.Record b s p ps ih = refl
 link_move M.Fault b s p ps ih = refl
 
@@ -258,22 +255,18 @@ pub again_run : (s : List ℕ) → 0 < length s → again s ≡ follow (run s S.
 again_run s h = again_is s h ∙ whole_run s
 
 -- a record takes at least a byte where there is one
-same_good : (ps qs : List (List ℕ)) (s r : List ℕ) → good ps s ≡ good qs r → s ≡ r
-same_good ps qs s r e = cc
-
 shrink_end : (st : State) (p : List ℕ) (ps qs : List (List ℕ)) (r : List ℕ) → finish st p ps ≡ good qs r → length r ≤ 0
-shrink_end S.Start p ps qs r e = let f = same_good (ps ++ p ∷ []) qs [] r e in omega (arith, ap length f)
-shrink_end S.Plain p ps qs r e = let f = same_good (ps ++ p ∷ []) qs [] r e in omega (arith, ap length f)
-shrink_end S.Quoted p ps qs r e = let z : ◌≡◌ {A = ℕ} 0 1 = cc in absurd (omega arith)
-shrink_end S.Closed p ps qs r e = let f = same_good (ps ++ p ∷ []) qs [] r e in omega (arith, ap length f)
-shrink_end S.Return p ps qs r e = let z : ◌≡◌ {A = ℕ} 0 1 = cc in absurd (omega arith)
+shrink_end S.Start p ps qs r e = let f : r ≡ [] = cc in omega (arith, ap length f)
+shrink_end S.Plain p ps qs r e = let f : r ≡ [] = cc in omega (arith, ap length f)
+shrink_end S.Quoted p ps qs r e = cc
+shrink_end S.Closed p ps qs r e = let f : r ≡ [] = cc in omega (arith, ap length f)
+shrink_end S.Return p ps qs r e = cc
 
 shrink_move : (m : Move) (b : ℕ) (s p : List ℕ) (ps qs : List (List ℕ)) (r : List ℕ) → ((st : State) (p : List ℕ) (ps : List (List ℕ)) → run s st p ps ≡ good qs r → length r ≤ length s) → go m b s p ps (run s) ≡ good qs r → length r ≤ length s
 shrink_move (M.Take st) b s p ps qs r ih e = ih st (p ++ b ∷ []) ps e
-shrink_move M.Field b s p ps qs r ih e = ih S.Start [] (ps ++ p ∷ []) e
-shrink_move M.Last b s p ps qs r ih e = ih S.Return [] (ps ++ p ∷ []) e
-shrink_move M.Record b s p ps qs r ih e = let f = same_good ps qs s r e in omega (arith, ap length f)
-shrink_move M.Fault b s p ps qs r ih e = let z : ◌≡◌ {A = ℕ} 0 1 = cc in absurd (omega arith)
+shrink_move (M.End st) b s p ps qs r ih e = ih st [] (ps ++ p ∷ []) e
+shrink_move M.Record b s p ps qs r ih e = let f : r ≡ s = cc in omega (arith, ap length f)
+shrink_move M.Fault b s p ps qs r ih e = cc
 
 shrink : (s : List ℕ) (st : State) (p : List ℕ) (ps qs : List (List ℕ)) (r : List ℕ) → run s st p ps ≡ good qs r → length r ≤ length s - 1
 shrink [] st p ps qs r e = omega (arith, shrink_end st p ps qs r e)

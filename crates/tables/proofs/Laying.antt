@@ -1,47 +1,25 @@
--- Bytes laid one after another.
-use Rattle.std.proofs.Common.{◌≡◌, ℕ, ◌+◌, ◌/◌, ◌%◌, ◌^◌, ◌<◌, ◌≤◌, ◌⊎◌, List, [], ◌∷◌, ◌++◌, map, length, get_or, take, drop, set, sym, refl, ap, ◌∙◌, subst, inl, inr, ⊎_elim, append_assoc, arith}
-use Rattle.std.proofs.lemmas.List.{length-set, length-append, length-map, map-append, take_more, take_more_set, drop-set-lt, take-append-drop}
-use Rattle.std.proofs.lemmas.Int.Digits.{digits_of_step, length-digits_of-le}
-use Rattle.std.proofs.lemmas.Bool.{cases_eq}
+-- Bytes laid one after another, and numbers among them.
+use Rattle.std.proofs.Common.{◌≡◌, ℕ, suc, ◌+◌, ◌-◌, ◌^◌, ◌<◌, ◌≤◌, ◌⊎◌, min, List, [], ◌∷◌, ◌++◌, ℤ, pos, negsuc, length, take, drop, set, sym, ap, ◌∙◌, subst, w64, SFits, to_z, of_z, inl, inr, ⊎_elim, append_assoc, arith}
+use Rattle.std.proofs.lemmas.List.{length-set, length-append, length-map, take_more_set, take_all, take_min, drop_all, drop_min, drop-drop, drop-set-lt, take-append-drop, set_past}
+use Rattle.std.proofs.Math.Seq.{take-nil}
+use Rattle.std.proofs.lemmas.Int.Digits.{length-digits_of-le}
+use Rattle.std.proofs.lemmas.Int.{to_z-of_z}
+use Rattle.std.proofs.lemmas.Fmt.{decimal_digit, decimal-digits_of}
+use Rattle.std.proofs.lemmas.Bool.{cases_eq, cases_lt}
+use Rattle.std.specs.Fmt.{decimal, signed_decimal}
+use Rattle.std.specs.Int.Signed.{mag}
 use Rattle.std.specs.Int.Digits.{digits_of}
-use Rattle.tables.specs.Laid.{laid, Wrote}
-use Rattle.tables.specs.Numerals.{spelled}
+use Rattle.tables.specs.Laid.{laid, Adds}
+use Rattle.tables.specs.declared.write.Writer.{Writer}
+use Rattle.tables.specs.Numerals.{spelled, spelledℤ}
 use Rattle.tables.proofs.Spelling.{spelled_some}
 
 pub laid_append : (m : List ℕ) (p : ℕ) (xs ys : List ℕ) → laid m p (xs ++ ys) ≡ laid (laid m p xs) (p + length xs) ys
 laid_append m p [] ys = ap (λ k. laid m k ys) (omega arith)
 laid_append m p (x ∷ xs) ys = laid_append (set m p x) (p + 1) xs ys ∙ ap (λ k. laid (laid (set m p x) (p + 1) xs) k ys) (omega arith)
 
-pub length-laid : (m : List ℕ) (p : ℕ) (xs : List ℕ) → length (laid m p xs) ≡ length m
-length-laid m p [] = refl
-length-laid m p (x ∷ xs) = length-laid (set m p x) (p + 1) xs ∙ length-set m p x
-
-pub then : (m m' m'' : List ℕ) (p p' p'' : ℕ) (xs ys : List ℕ) → Wrote m p xs m' p' → Wrote m' p' ys m'' p'' → Wrote m p (xs ++ ys) m'' p''
-then m m' m'' p p' p'' xs ys a b =
-    record {
-      memory = b.memory ∙ (λ i. laid (a.memory i) (a.place i) ys) ∙ sym (laid_append m p xs ys);
-      place = omega (arith, a.place, b.place, length-append xs ys);
-    }
-
 cases_zero : (n : ℕ) → (n ≡ 0) ⊎ (0 < n)
 cases_zero n = ⊎_elim (λ e. inl e) (λ e. inr (omega arith)) (cases_eq n 0)
-
--- a number below ten is one digit, any other has those of its tenth before the last
-pub spelled_digit : (n : ℕ) → n < 10 → spelled n ≡ (48 + n) ∷ []
-spelled_digit n h =
-    let m : n % 10 ≡ n = omega arith in
-    let d : n / 10 ≡ 0 = omega arith in
-    ⊎_elim
-    (λ z. ap spelled z ∙ ap (λ k. k ∷ []) (omega arith))
-    (λ s. spelled_some n s ∙ ap (map (λ k. 48 + k)) (digits_of_step 10 n (omega arith) s ∙ (λ i. digits_of 10 (d i) ++ m i ∷ [])))
-    (cases_zero n)
-
-pub spelled_step : (n : ℕ) → 10 ≤ n → spelled n ≡ spelled (n / 10) ++ (48 + n % 10) ∷ []
-spelled_step n h =
-    let some : 0 < n = omega arith in
-    let tenth : 0 < n / 10 = omega arith in
-    spelled_some n some ∙ ap (map (λ k. 48 + k)) (digits_of_step 10 n (omega arith) some)
-    ∙ map-append (λ k. 48 + k) (digits_of 10 (n / 10)) (n % 10 ∷ []) ∙ ap (λ l. l ++ (48 + n % 10) ∷ []) (sym (spelled_some (n / 10) tenth))
 
 pub spelled_short : (n : ℕ) → n < 2 ^ 64 → length (spelled n) ≤ 20
 spelled_short n h =
@@ -50,28 +28,79 @@ spelled_short n h =
     (λ s. let e : length (spelled n) ≡ length (digits_of 10 n) = ap length (spelled_some n s) ∙ length-map (digits_of 10 n) (λ k. 48 + k) in omega (arith, length-digits_of-le 10 20 n (omega arith) (omega arith)))
     (cases_zero n)
 
-pub wrote_digit : (m m' : List ℕ) (p p' n : ℕ) → n < 10 → Wrote m p ((48 + n) ∷ []) m' p' → Wrote m p (spelled n) m' p'
-wrote_digit m m' p p' n h w = subst (λ bs. Wrote m p bs m' p') (sym (spelled_digit n h)) w
+-- what std prints of a number is how it is spelled
+pub decimal_spelled : (n : ℕ) → n < 2 ^ 64 → decimal n ≡ spelled n
+decimal_spelled n h =
+    ⊎_elim
+    (λ z. ap decimal z ∙ decimal_digit 0 (omega arith) ∙ sym (ap spelled z))
+    (λ s. decimal-digits_of n s h ∙ sym (spelled_some n s))
+    (cases_zero n)
 
-pub wrote_step : (m m' m'' : List ℕ) (p p' p'' n : ℕ) → 10 ≤ n → Wrote m p (spelled (n / 10)) m' p' → Wrote m' p' ((48 + n % 10) ∷ []) m'' p'' → Wrote m p (spelled n) m'' p''
-wrote_step m m' m'' p p' p'' n h a b = subst (λ bs. Wrote m p bs m'' p'') (sym (spelled_step n h)) (then m m' m'' p p' p'' (spelled (n / 10)) ((48 + n % 10) ∷ []) a b)
+pub signed_spelled : (z : ℤ) → mag z < 2 ^ 63 → signed_decimal z ≡ spelledℤ z
+signed_spelled (pos n) h = decimal_spelled n (omega arith)
+signed_spelled (negsuc n) h = ap (λ l. 45 ∷ l) (decimal_spelled (suc n) (omega arith))
 
-pub shorter : (n : ℕ) → 10 ≤ n → length (spelled (n / 10)) + 1 ≡ length (spelled n)
-shorter n h = sym (ap length (spelled_step n h) ∙ length-append (spelled (n / 10)) ((48 + n % 10) ∷ []))
+pub spelledℤ_short : (z : ℤ) → mag z < 2 ^ 63 → length (spelledℤ z) ≤ 21
+spelledℤ_short (pos n) h = omega (arith, spelled_short n (omega arith))
+spelledℤ_short (negsuc n) h = omega (arith, spelled_short (suc n) (omega arith))
 
-pub wrote_more : (m m' m'' : List ℕ) (p p' p'' : ℕ) (xs : List ℕ) (i : ℕ) → i < length xs → Wrote m p (take i xs) m' p' → Wrote m' p' (get_or xs i 0 ∷ []) m'' p'' → Wrote m p (take (i + 1) xs) m'' p''
-wrote_more m m' m'' p p' p'' xs i h a b = subst (λ bs. Wrote m p bs m'' p'') (sym (take_more xs i 0 h)) (then m m' m'' p p' p'' (take i xs) (get_or xs i 0 ∷ []) a b)
+-- where bytes are laid, those stand that fit
+laid_is : (m : List ℕ) (p : ℕ) (bs : List ℕ) → laid m p bs ≡ take p m ++ (take (length m - p) bs ++ drop (p + length bs) m)
+laid_is m p [] = sym (ap (λ l. take p m ++ (l ++ drop (p + 0) m)) (take-nil (length m - p)) ∙ ap (λ n. take p m ++ drop n m) (omega arith) ∙ take-append-drop p m)
+laid_is m p (b ∷ bs) =
+    laid_is (set m p b) (p + 1) bs
+    ∙ ⊎_elim
+    (λ less.
+    let one : length m - p ≡ suc (length (set m p b) - (p + 1)) = omega (arith, length-set m p b) in
+    (λ i. take_more_set m p b less i ++ (take (length (set m p b) - (p + 1)) bs ++ drop (p + 1 + length bs) (set m p b)))
+    ∙ append_assoc (take p m) (b ∷ []) (take (length (set m p b) - (p + 1)) bs ++ drop (p + 1 + length bs) (set m p b))
+    ∙ ap (λ l. take p m ++ (b ∷ (take (length (set m p b) - (p + 1)) bs ++ l))) (drop-set-lt (p + 1 + length bs) m p b (omega arith) ∙ ap (λ n. drop n m) (omega arith))
+    ∙ ap (λ n. take p m ++ (take n (b ∷ bs) ++ drop (p + length (b ∷ bs)) m)) (sym one))
+    (λ past.
+    let none : length m - p ≡ 0 = omega arith in
+    let none_after : length m - (p + 1) ≡ 0 = omega arith in
+    ap (λ n. take (p + 1) n ++ (take (length n - (p + 1)) bs ++ drop (p + 1 + length bs) n)) (set_past m p b past)
+    ∙ (λ i. take_all (p + 1) m (omega arith) i ++ (take (none_after i) bs ++ drop_all (p + 1 + length bs) m (omega arith) i))
+    ∙ sym (λ i. take_all p m past i ++ (take (none i) (b ∷ bs) ++ drop_all (p + length (b ∷ bs)) m (omega arith) i)))
+    (cases_lt p (length m))
 
--- bytes that fit stand where they are laid
-laid_within : (m : List ℕ) (p : ℕ) (bs : List ℕ) → p + length bs ≤ length m → laid m p bs ≡ take p m ++ (bs ++ drop (p + length bs) m)
-laid_within m p [] h = sym (ap (λ n. take p m ++ drop n m) (omega arith) ∙ take-append-drop p m)
-laid_within m p (b ∷ bs) h =
-    let less : p < length m = omega arith in
-    let fits : p + 1 + length bs ≤ length (set m p b) = omega (arith, length-set m p b) in
-    laid_within (set m p b) (p + 1) bs fits
-    ∙ (λ i. take_more_set m p b less i ++ (bs ++ drop (p + 1 + length bs) (set m p b)))
-    ∙ append_assoc (take p m) (b ∷ []) (bs ++ drop (p + 1 + length bs) (set m p b))
-    ∙ ap (λ l. take p m ++ (b ∷ (bs ++ l))) (drop-set-lt (p + 1 + length bs) m p b (omega arith) ∙ ap (λ n. drop n m) (omega arith))
+pub laid_part : (m bs : List ℕ) (p a k : ℕ) → a ≡ min p (length m) → k ≡ min (length bs) (length m - a) → laid m p bs ≡ take a m ++ (take k bs ++ drop k (drop a m))
+laid_part m bs p a k at fit =
+    let few : k ≡ min (length m - p) (length bs) = omega arith in
+    let end : a + k ≡ min (p + length bs) (length m) = omega arith in
+    laid_is m p bs
+    ∙ sym ((λ i. take (at i) m ++ (take (few i) bs ++ drop-drop k a m i))
+    ∙ (λ i. take_min p m i ++ (take_min (length m - p) bs i ++ drop (end i) m))
+    ∙ ap (λ l. take p m ++ (take (length m - p) bs ++ l)) (drop_min (p + length bs) m))
 
 pub laid_whole : (m bs : List ℕ) → length bs ≤ length m → laid m 0 bs ≡ bs ++ drop (length bs) m
-laid_whole m bs h = laid_within m 0 bs (omega arith) ∙ ap (λ n. bs ++ drop n m) (omega arith)
+laid_whole m bs h = laid_is m 0 bs ∙ (λ i. take_all (length m - 0) bs (omega arith) i ++ drop (0 + length bs) m) ∙ ap (λ n. bs ++ drop n m) (omega arith)
+
+-- what a writer laid from the start of its memory on stands there whole
+pub adds_whole : (m : List ℕ) (w w' : Writer) (bs : List ℕ) → Adds w bs w' → w.at ≡ 0 → w.out.now ≡ m → length bs < 2 ^ 64 → length bs ≤ length m → w'.out.now ≡ bs ++ drop (length bs) m
+adds_whole m w w' bs a start is short fits = (a.wrote (omega arith)).memory ∙ (λ i. laid (is i) (start i) bs) ∙ laid_whole m bs fits
+
+pub adds_count : (w w' : Writer) (bs : List ℕ) → Adds w bs w' → w.at ≡ 0 → length bs < 2 ^ 64 → w'.at ≡ length bs
+adds_count w w' bs a start short = let p = (a.wrote (omega arith)).place in omega arith
+
+-- bytes added one after another
+pub then : (w v u : Writer) (xs ys : List ℕ) → Adds w xs v → Adds v ys u → Adds w (xs ++ ys) u
+then w v u xs ys a b =
+    record {
+      same_reference = b.same_reference ∙ a.same_reference;
+      wrote = λ h.
+          let all = length-append xs ys in
+          let first = a.wrote (omega arith) in
+          let second = b.wrote (omega arith) in
+          record {
+            memory = second.memory ∙ (λ i. laid (first.memory i) (first.place i) ys) ∙ sym (laid_append w.out.now w.at xs ys);
+            place = omega arith;
+          };
+    }
+
+-- a number that fits is added as it is spelled
+pub number_added : (w v : Writer) (m n : ℕ) → m ≡ n → m < 2 ^ 64 → Adds w (decimal m) v → Adds w (spelled n) v
+number_added w v m n e h a = subst (λ (bs : List ℕ). Adds w bs v) (decimal_spelled m h ∙ ap spelled e) a
+
+pub integer_added : (w v : Writer) (z : ℤ) → SFits w64 z → Adds w (signed_decimal (to_z w64 (of_z w64 z))) v → Adds w (spelledℤ z) v
+integer_added w v z h a = subst (λ (bs : List ℕ). Adds w bs v) (ap signed_decimal (to_z-of_z w64 z h) ∙ signed_spelled z h.sfits) a

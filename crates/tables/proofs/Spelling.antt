@@ -57,12 +57,6 @@ one_digit b low high =
     spelled_some m some ∙ ap text (digits_of_step 10 m (omega arith) some) ∙ map-append (λ d. 48 + d) (digits_of 10 (m / 10)) (m % 10 ∷ []) ∙ (λ i. text (digits_of 10 (q i)) ++ r i ∷ []))
     (cases_eq b 48)
 
-none_some : {P : Type 0} (n : ℕ) → None ≡ Some n → P
-none_some n e = let z : ◌≡◌ {A = ℕ} 0 1 = cc in absurd (omega arith)
-
-same_some : {A : Type 0} (m n : A) → Some m ≡ Some n → m ≡ n
-same_some m n e = cc
-
 record First (b : ℕ) (s : List ℕ) (m n : ℕ) : Type 0 where
   low : 48 ≤ b
   high : b ≤ 57
@@ -72,24 +66,25 @@ first_digit : (b : ℕ) (s : List ℕ) (m n : ℕ) → digits m (b ∷ s) ≡ So
 first_digit b s m n e =
     ⊎_elim
     (λ d. let both = and_parts (leb 48 b) (leb b 57) d in record { low = leb-true 48 b both.0; high = leb-true b 57 both.1; rest = rw d at e })
-    (λ d. none_some n (rw d at e))
+    (λ d. let f = rw d at e in cc)
     (cases_Bool (digit b))
 
 digits_read : (s : List ℕ) (m n : ℕ) → 0 < m → digits m s ≡ Some n → spelled m ++ s ≡ spelled n
-digits_read [] m n p e = append-nil (spelled m) ∙ ap spelled (same_some m n e)
+digits_read [] m n p e = let f : m ≡ n = cc in append-nil (spelled m) ∙ ap spelled f
 digits_read (b ∷ s) m n p e =
     let f = first_digit b s m n e in
     let q : 0 < m * 10 + (b - 48) = omega arith in
     sym (ap (λ l. l ++ s) (spelled_more m b p f.low f.high) ∙ append_assoc (spelled m) (b ∷ []) s) ∙ digits_read s (m * 10 + (b - 48)) n q f.rest
 
 read : (s : List ℕ) (n : ℕ) → numeral s ≡ Some n → s ≡ spelled n
-read [] n e = none_some n e
+read [] n e = cc
 read (b ∷ []) n e =
     let f = first_digit b [] 0 n e in
-    sym (one_digit b f.low f.high) ∙ ap spelled (same_some _ n f.rest)
+    let last : 0 * 10 + (b - 48) ≡ n = cc in
+    sym (one_digit b f.low f.high) ∙ ap spelled last
 read (b ∷ d ∷ s) n e =
     ⊎_elim
-    (λ z. none_some n (rw z at e))
+    (λ z. let f = rw z at e in cc)
     (λ z.
     let f = first_digit b (d ∷ s) 0 n (rw z at e) in
     let ne = eqb-false b 48 z in
@@ -99,10 +94,10 @@ read (b ∷ d ∷ s) n e =
 
 -- what a number is read from does not begin with a minus
 no_minus : (s : List ℕ) (n : ℕ) → numeral s ≡ Some n → signed_by numeral s ≡ Some (pos n)
-no_minus [] n e = none_some n e
+no_minus [] n e = cc
 no_minus (b ∷ s) n e =
     ⊎_elim
-    (λ h. none_some n (sym (minus_none b s (eqb-true b 45 h)) ∙ e))
+    (λ h. let f = minus_none b s (eqb-true b 45 h) in cc)
     (λ h. rw h (ap plus e))
     (cases_Bool (eqb b 45))
   where
@@ -120,9 +115,9 @@ record Minus (o : Option ℕ) (z : ℤ) : Type 0 where
   is : z ≡ negsuc n
 
 minus_some : (o : Option ℕ) (z : ℤ) → minus o ≡ Some z → Minus o z
-minus_some None z e = let c : ◌≡◌ {A = ℕ} 0 1 = cc in absurd (omega arith)
-minus_some (Some zero) z e = let c : ◌≡◌ {A = ℕ} 0 1 = cc in absurd (omega arith)
-minus_some (Some (suc n)) z e = record { n = n; some = refl; is = sym (same_some _ _ e) }
+minus_some None z e = cc
+minus_some (Some zero) z e = cc
+minus_some (Some (suc n)) z e = record { n = n; some = refl; is = cc }
 
 record Plus (o : Option ℕ) (z : ℤ) : Type 0 where
   n : ℕ
@@ -130,11 +125,11 @@ record Plus (o : Option ℕ) (z : ℤ) : Type 0 where
   is : z ≡ pos n
 
 plus_some : (o : Option ℕ) (z : ℤ) → plus o ≡ Some z → Plus o z
-plus_some None z e = let c : ◌≡◌ {A = ℕ} 0 1 = cc in absurd (omega arith)
-plus_some (Some n) z e = record { n = n; some = refl; is = sym (same_some _ _ e) }
+plus_some None z e = cc
+plus_some (Some n) z e = record { n = n; some = refl; is = cc }
 
 readℤ : (s : List ℕ) (z : ℤ) → signed_by numeral s ≡ Some z → s ≡ spelledℤ z
-readℤ [] z e = let c : ◌≡◌ {A = ℕ} 0 1 = cc in absurd (omega arith)
+readℤ [] z e = cc
 readℤ (b ∷ s) z e =
     ⊎_elim
     (λ h. let m = minus_some (numeral s) z (rw h at e) in (λ i. eqb-true b 45 h i ∷ read s (suc m.n) m.some i) ∙ ap spelledℤ (sym m.is))

@@ -140,8 +140,7 @@ quote_again p b m h =
 -- where a byte leads
 abbrev pub After : Move → ℕ → List ℕ → List (List ℕ) → List ℕ → Type 0
 After (M.Take st) b p ps c = Begun st (p ++ b ∷ []) ps (c ++ b ∷ [])
-After M.Field b p ps c = Begun S.Start [] (ps ++ p ∷ []) (c ++ b ∷ [])
-After M.Last b p ps c = Begun S.Return [] (ps ++ p ∷ []) (c ++ b ∷ [])
+After (M.End st) b p ps c = Begun st [] (ps ++ p ∷ []) (c ++ b ∷ [])
 After M.Record b p ps c = Lined (13 ∷ 10 ∷ []) ps (c ++ b ∷ [])
 After M.Fault b p ps c = Unit {0}
 
@@ -254,9 +253,6 @@ stuck_here w s st p ps rs h no_more =
       hopeless = λ b u v e f. no_more b u v e (h.back (b ∷ v) f);
     }
 
-not_cons : {P : Type 0} (b : ℕ) (u : List ℕ) → [] ≡ b ∷ u → P
-not_cons b u e = let z : ◌≡◌ {A = ℕ} 0 1 = cc in absurd (omega arith)
-
 over_here : (w : List ℕ) (st : State) (p : List ℕ) (ps : List (List ℕ)) (rs : List Row) → (h : Here w [] st p ps rs) → Within st p ps h.c → IsField p → Tells w rs (row (ps ++ p ∷ []) done)
 over_here w st p ps rs h v i =
     let l = end_line [] st p ps h.c v i in
@@ -274,9 +270,9 @@ over_here w st p ps rs h v i =
 tells_end : (w : List ℕ) (st : State) (p : List ℕ) (ps : List (List ℕ)) (rs : List Row) → Here w [] st p ps rs → Tells w rs (close st p ps)
 tells_end w S.Start p ps rs h = over_here w S.Start p ps rs h h.begun (start_field p h.begun.mid)
 tells_end w S.Plain p ps rs h = over_here w S.Plain p ps rs h h.begun (plain_field p h.begun.mid)
-tells_end w S.Quoted p ps rs h = stuck_here w [] S.Quoted p ps rs h (λ b u v e. not_cons b u e)
+tells_end w S.Quoted p ps rs h = stuck_here w [] S.Quoted p ps rs h (λ b u v e. cc)
 tells_end w S.Closed p ps rs h = over_here w S.Closed p ps rs h h.begun (closed_field p h.begun.mid)
-tells_end w S.Return p ps rs h = stuck_here w [] S.Return p ps rs h (λ b u v e. not_cons b u e)
+tells_end w S.Return p ps rs h = stuck_here w [] S.Return p ps rs h (λ b u v e. cc)
 
 abbrev Sweeps : List ℕ → Type 0
 Sweeps s = (st : State) (p : List ℕ) (ps : List (List ℕ)) (rs : List Row) (w : List ℕ) → Here w s st p ps rs → Tells w rs (tell s st p ps)
@@ -321,8 +317,7 @@ next_row w (d ∷ s) st p ps rs b h l back ih =
 
 tells_move : (m : Move) (w s : List ℕ) (st : State) (p : List ℕ) (ps : List (List ℕ)) (rs : List Row) (b : ℕ) (h : Here w (b ∷ s) st p ps rs) → After m b p ps h.c → ((v : List ℕ) → Ends (tell (b ∷ v) st p ps) → Ends (move m b v p ps (tell v))) → Sweeps s → Tells w rs (move m b s p ps (tell s))
 tells_move (M.Take to) w s st p ps rs b h a back ih = ih to (p ++ b ∷ []) ps rs w (one_on w s st to p (p ++ b ∷ []) ps ps rs b h a back)
-tells_move M.Field w s st p ps rs b h a back ih = ih S.Start [] (ps ++ p ∷ []) rs w (one_on w s st S.Start p [] ps (ps ++ p ∷ []) rs b h a back)
-tells_move M.Last w s st p ps rs b h a back ih = ih S.Return [] (ps ++ p ∷ []) rs w (one_on w s st S.Return p [] ps (ps ++ p ∷ []) rs b h a back)
+tells_move (M.End to) w s st p ps rs b h a back ih = ih to [] (ps ++ p ∷ []) rs w (one_on w s st to p [] ps (ps ++ p ∷ []) rs b h a back)
 tells_move M.Record w s st p ps rs b h a back ih = (
   record {
     r = a.r;
@@ -333,10 +328,7 @@ tells_move M.Record w s st p ps rs b h a back ih = (
   next_row w s st p ps rs b h a back ih,
 )
 tells_move M.Fault w s st p ps rs b h a back ih =
-    stuck_here w (b ∷ s) st p ps rs h (λ d u v e. subst (λ x. Ends (tell (x ∷ v) st p ps) → ⊥) (first b d s u e) (back v))
-  where
-    first : (c d : ℕ) (s u : List ℕ) → c ∷ s ≡ d ∷ u → c ≡ d
-    first c d s u e = cc
+    stuck_here w (b ∷ s) st p ps rs h (λ d u v e. let f : b ≡ d = cc in subst (λ x. Ends (tell (x ∷ v) st p ps) → ⊥) f (back v))
 
 pub tells : (s : List ℕ) → Sweeps s
 tells [] st p ps rs w h = tells_end w st p ps rs h

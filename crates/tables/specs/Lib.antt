@@ -1,5 +1,6 @@
 pub mod Written
 pub mod Machine
+pub mod Fields
 pub mod Reads
 pub mod Laws
 pub mod Numerals

@@ -12,13 +12,13 @@ class b = cond (b == 44) C.Comma (cond (b == 34) C.Quote (cond (b == 13) C.Retur
 
 abbrev pub next : State → Class → Move
 next S.Start k =
-    elim k [ C.Comma ↦ M.Field | C.Quote ↦ M.Take S.Quoted | C.Return ↦ M.Last | C.Feed ↦ M.Fault | C.Plain ↦ M.Take S.Plain | C.Other ↦ M.Fault ]
+    elim k [ C.Comma ↦ M.End S.Start | C.Quote ↦ M.Take S.Quoted | C.Return ↦ M.End S.Return | C.Feed ↦ M.Fault | C.Plain ↦ M.Take S.Plain | C.Other ↦ M.Fault ]
 next S.Plain k =
-    elim k [ C.Comma ↦ M.Field | C.Quote ↦ M.Fault | C.Return ↦ M.Last | C.Feed ↦ M.Fault | C.Plain ↦ M.Take S.Plain | C.Other ↦ M.Fault ]
+    elim k [ C.Comma ↦ M.End S.Start | C.Quote ↦ M.Fault | C.Return ↦ M.End S.Return | C.Feed ↦ M.Fault | C.Plain ↦ M.Take S.Plain | C.Other ↦ M.Fault ]
 next S.Quoted k =
     elim k [ C.Comma ↦ M.Take S.Quoted | C.Quote ↦ M.Take S.Closed | C.Return ↦ M.Take S.Quoted | C.Feed ↦ M.Take S.Quoted | C.Plain ↦ M.Take S.Quoted | C.Other ↦ M.Fault ]
 next S.Closed k =
-    elim k [ C.Comma ↦ M.Field | C.Quote ↦ M.Take S.Quoted | C.Return ↦ M.Last | C.Feed ↦ M.Fault | C.Plain ↦ M.Fault | C.Other ↦ M.Fault ]
+    elim k [ C.Comma ↦ M.End S.Start | C.Quote ↦ M.Take S.Quoted | C.Return ↦ M.End S.Return | C.Feed ↦ M.Fault | C.Plain ↦ M.Fault | C.Other ↦ M.Fault ]
 next S.Return k =
     elim k [ C.Comma ↦ M.Fault | C.Quote ↦ M.Fault | C.Return ↦ M.Fault | C.Feed ↦ M.Record | C.Plain ↦ M.Fault | C.Other ↦ M.Fault ]
 
@@ -36,8 +36,7 @@ finish S.Return p ps = bad []
 
 abbrev pub go : Move → ℕ → List ℕ → List ℕ → List (List ℕ) → (State → List ℕ → List (List ℕ) → Out) → Out
 go (M.Take st) b s p ps f = f st (p ++ b ∷ []) ps
-go M.Field b s p ps f = f S.Start [] (ps ++ p ∷ [])
-go M.Last b s p ps f = f S.Return [] (ps ++ p ∷ [])
+go (M.End st) b s p ps f = f st [] (ps ++ p ∷ [])
 go M.Record b s p ps f = good ps s
 go M.Fault b s p ps f = bad (b ∷ s)
 
@@ -66,8 +65,7 @@ begin (b ∷ s) f = f S.Start [] []
 
 abbrev pub move : Move → ℕ → List ℕ → List ℕ → List (List ℕ) → (State → List ℕ → List (List ℕ) → Told) → Told
 move (M.Take st) b s p ps f = f st (p ++ b ∷ []) ps
-move M.Field b s p ps f = f S.Start [] (ps ++ p ∷ [])
-move M.Last b s p ps f = f S.Return [] (ps ++ p ∷ [])
+move (M.End st) b s p ps f = f st [] (ps ++ p ∷ [])
 move M.Record b s p ps f = row ps (begin s f)
 move M.Fault b s p ps f = stuck (b ∷ s)
 

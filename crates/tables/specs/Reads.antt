@@ -1,17 +1,15 @@
 -- How the reader follows the machine. Assumes nothing.
-use Rattle.std.specs.Prelude.{◌≡◌, ℕ, ◌+◌, ◌<◌, ◌≤◌, Bool, true, false, List, [], ◌∷◌, ◌++◌, map, length, take, drop, Some, None, Ok, Err, Option, Result}
+use Rattle.std.specs.Prelude.{◌≡◌, ℕ, ◌+◌, ◌<◌, Bool, true, false, List, [], ◌∷◌, length, take, drop, Some, None, Ok, Err, Option, Result}
 use Rattle.std.specs.Borrow.{Bor}
+use Rattle.arrayvec.specs.ArrayVec.{ArrayVec}
 use Rattle.tables.specs.declared.grammar.Fault.{Fault}
 use Rattle.tables.specs.declared.grammar.Records.{Records}
-use Rattle.tables.specs.declared.grammar.Fields.{Fields}
 use Rattle.tables.specs.declared.grammar.State.TheVariants as S
+use Rattle.tables.specs.Fields.{held}
 use Rattle.tables.specs.Machine.{good, bad, run}
 
 abbrev pub rest : Records → List ℕ
 rest r = drop r.pos r.src.now
-
-abbrev pub Sound : Records → Type 0
-Sound r = r.pos ≤ length r.src.now
 
 -- the text from its beginning on
 abbrev pub Begins : Bor (List ℕ) → Records → Type 0
@@ -25,22 +23,10 @@ abbrev pub Peeked : Records → Option ℕ → Type 0
 Peeked r None = (r.pos ≡ length r.src.now) × (rest r ≡ [])
 Peeked r (Some b) = (r.pos < length r.src.now) × (rest r ≡ b ∷ drop (r.pos + 1) r.src.now)
 
--- the parts of the fields, six at most
-abbrev pub held : Fields → List (List ℕ)
-held f = take f.count (map (λ p. p.now) f.parts)
-
-abbrev pub Room : Fields → Type 0
-Room f = (length f.parts ≡ 6) × (f.count ≤ 6)
-
-pub record Pushed (before : Fields) (p : List ℕ) (after : Fields) : Type 0 where
-  pub room : Room after
-  pub parts : held after ≡ take 6 (held before ++ p ∷ [])
-
-abbrev pub Found : Records → Records → Result Fields Fault → Type 0
-Found before after (Ok f) = (ps : List (List ℕ)) × (run (rest before) S.Start [] [] ≡ good ps (rest after)) × Room f × (held f ≡ take 6 ps)
+abbrev pub Found : Records → Records → Result (ArrayVec (Bor (List ℕ))) Fault → Type 0
+Found before after (Ok f) = (ps : List (List ℕ)) × (run (rest before) S.Start [] [] ≡ good ps (rest after)) × (held f ≡ take 6 ps)
 Found before after (Err e) = (run (rest before) S.Start [] [] ≡ bad (rest after)) × (e ≡ record { place = after.pos })
 
-pub record ReadsRecord (before after : Records) (r : Result Fields Fault) : Type 0 where
+pub record ReadsRecord (before after : Records) (r : Result (ArrayVec (Bor (List ℕ))) Fault) : Type 0 where
   pub src : after.src ≡ before.src
-  pub sound : Sound after
   pub found : Found before after r

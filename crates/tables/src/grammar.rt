@@ -1,8 +1,10 @@
 // The records of a table, one after another, with their fields as parts of the text.
-ghost use Rattle.std.specs.Prelude.{◌≡◌, ℕ, ◌+◌, ◌-◌, ◌<◌, ◌≤◌, [], slice_index_or};
+ghost use Rattle.std.specs.Prelude.{◌≡◌, ℕ, ◌+◌, ◌-◌, ◌<◌, ◌≤◌, [], ◌∷◌, ◌++◌, length, take};
 ghost use Rattle.tables.specs.Laws.{Complete, Sound as IsSound, Placed, Means, Reads, inner as inner_of};
+ghost use Rattle.tables.specs.Fields.{held};
 ghost use Rattle.tables.specs.Machine.{class as class_of, next as next_of};
-ghost use Rattle.tables.specs.Reads.{Sound, Begins, IsOver, Peeked, Room, held, Pushed, ReadsRecord};
+
+use arrayvec::ArrayVec;
 
 // Where a record stands after the bytes so far.
 #[derive(Clone, Copy)]
@@ -24,12 +26,11 @@ pub enum Class {
     Other,
 }
 
-// What a byte does to a record: it goes on in a state, ends a field, ends the last field, ends the record, or is not allowed.
+// What a byte does to a record: it goes on with its field, or ends the field, both in a state; it ends the record, or is not allowed.
 #[derive(Clone, Copy)]
 pub enum Move {
     Take(State),
-    Field,
-    Last,
+    End(State),
     Record,
     Fault,
 }
@@ -44,29 +45,14 @@ pub struct Fault {
 pub const MAX_FIELDS: usize = 6;
 
 // The first six fields of a record as parts of the text, or all where they are fewer.
-#[derive(Clone, Copy)]
-pub struct Fields<'a> {
-    pub parts: [&'a [u8]; 6],
-    pub count: usize,
-}
+pub type Fields<'a> = ArrayVec<&'a [u8], MAX_FIELDS>;
 
-impl<'a> Fields<'a> {
-    pub fn get(&self, i: usize) -> &'a [u8]
-        requires room { Room self.now }
-        requires has { i < self.now.count }
-        ensures { result.now ≡ slice_index_or (held self.now) i [] }
-    {
-        self.parts[i]
-    }
-
-    fn push(&mut self, part: &'a [u8])
-        requires { Room self.old }
-        ensures { Pushed self.old part.now self.new }
-    {
-        if self.count < MAX_FIELDS {
-            self.parts[self.count] = part;
-            self.count += 1;
-        }
+// Holds a part where there is room for it.
+fn push<'a>(fields: &mut Fields<'a>, part: &'a [u8])
+    ensures { held fields.new ≡ take 6 (held fields.old ++ part.now ∷ []) }
+{
+    if !fields.is_full() {
+        fields.push(part);
     }
 }
 
@@ -74,22 +60,21 @@ impl<'a> Fields<'a> {
 pub fn inner(part: &[u8]) -> &[u8]
     ensures { result.now ≡ inner_of part.now }
 {
-    if part.len() > 1 && part[0] == b'"' {
-        &part[1..part.len() - 1]
-    } else {
-        part
+    match part {
+        [b'"', contents @ .., _] => contents,
+        _ => part,
     }
 }
 
 fn class_of(b: u8) -> Class
     ensures { result ≡ class_of b }
 {
-    match b as char {
-        ',' => Class::Comma,
-        '"' => Class::Quote,
-        '\r' => Class::Return,
-        '\n' => Class::Feed,
-        ' '..='~' => Class::Plain,
+    match b {
+        b',' => Class::Comma,
+        b'"' => Class::Quote,
+        b'\r' => Class::Return,
+        b'\n' => Class::Feed,
+        b' '..=b'~' => Class::Plain,
         _ => Class::Other,
     }
 }
@@ -103,8 +88,8 @@ fn step(state: State, class: Class) -> Move
         (State::Quoted, _) => Move::Take(State::Quoted),
         (State::Start | State::Closed, Class::Quote) => Move::Take(State::Quoted),
         (State::Start | State::Plain, Class::Plain) => Move::Take(State::Plain),
-        (State::Start | State::Plain | State::Closed, Class::Comma) => Move::Field,
-        (State::Start | State::Plain | State::Closed, Class::Return) => Move::Last,
+        (State::Start | State::Plain | State::Closed, Class::Comma) => Move::End(State::Start),
+        (State::Start | State::Plain | State::Closed, Class::Return) => Move::End(State::Return),
         (State::Return, Class::Feed) => Move::Record,
         _ => Move::Fault,
     }
@@ -115,9 +100,12 @@ fn step(state: State, class: Class) -> Move
 pub struct Records<'a> {
     src: &'a [u8],
     pos: usize,
+    pub ghost within: { pos ≤ length src.now },
 }
 
 impl<'a> Records<'a> {
+    ghost use Rattle.tables.specs.Reads.{Begins, IsOver, Peeked, ReadsRecord};
+
     pub fn new(src: &'a [u8]) -> Records<'a>
         ensures { Begins src.entry result }
     {
@@ -125,7 +113,6 @@ impl<'a> Records<'a> {
     }
 
     pub fn is_over(&self) -> bool
-        requires { Sound self.now }
         ensures { IsOver self.now result }
     {
         self.pos == self.src.len()
@@ -138,40 +125,25 @@ impl<'a> Records<'a> {
     }
 
     fn peek(&self) -> Option<u8>
-        requires { Sound self.now }
         ensures { Peeked self.now result }
     {
-        if self.pos < self.src.len() {
-            Some(self.src[self.pos])
-        } else {
-            None
-        }
+        self.src.get(self.pos).copied()
     }
 
     // The next record, with or without its line end where the text ends.
     pub fn next_record(&mut self) -> Result<Fields<'a>, Fault>
-        requires { Sound self.old }
         ensures { ReadsRecord self.old self.new result }
     {
-        let none = &self.src[0..0];
-        let mut fields = Fields {
-            parts: [none; 6],
-            count: 0,
-        };
+        let mut fields = Fields::new();
         let mut from = self.pos;
         let mut state = State::Start;
         while let Some(b) = self.peek() {
             match step(state, class_of(b)) {
                 Move::Take(next) => state = next,
-                Move::Field => {
-                    fields.push(&self.src[from..self.pos]);
+                Move::End(next) => {
+                    push(&mut fields, &self.src[from..self.pos]);
                     from = self.pos + 1;
-                    state = State::Start;
-                }
-                Move::Last => {
-                    fields.push(&self.src[from..self.pos]);
-                    from = self.pos + 1;
-                    state = State::Return;
+                    state = next;
                 }
                 Move::Record => {
                     self.pos += 1;
@@ -184,7 +156,7 @@ impl<'a> Records<'a> {
         match state {
             State::Quoted | State::Return => Err(self.fault()),
             State::Start | State::Plain | State::Closed => {
-                fields.push(&self.src[from..self.pos]);
+                push(&mut fields, &self.src[from..self.pos]);
                 Ok(fields)
             }
         }

@@ -11,15 +11,8 @@ fn digits(text: &[u8]) -> Option<u32>
 {
     let mut n = 0u32;
     for b in text {
-        if !b.is_ascii_digit() {
-            return None;
-        }
-        let next = n as u64 * 10 + (*b - b'0') as u64;
-        n = if next < PAST as u64 {
-            next as u32
-        } else {
-            PAST
-        };
+        let digit = char::from(*b).to_digit(10)?;
+        n = n.saturating_mul(10).saturating_add(digit).min(PAST);
     }
     Some(n)
 }
@@ -28,25 +21,19 @@ fn digits(text: &[u8]) -> Option<u32>
 pub fn natural(text: &[u8]) -> Option<u32>
     ensures { result ≡ capped (numeral text.now) }
 {
-    if text.len() == 0 {
-        return None;
+    match text {
+        [] | [b'0', _, ..] => None,
+        _ => digits(text),
     }
-    if text.len() > 1 && text[0] == b'0' {
-        return None;
-    }
-    digits(text)
 }
 
 // The same with a minus before a number below zero.
 pub fn integer(text: &[u8]) -> Option<i64>
     ensures { result ≡ signed_by (λ s. capped (numeral s)) text.now }
 {
-    if text.len() > 0 && text[0] == b'-' {
-        let n = natural(&text[1..])?;
-        if n == 0 { None } else { Some(-(n as i64)) }
-    } else {
-        let n = natural(text)?;
-        Some(n as i64)
+    match text {
+        [b'-', rest @ ..] => natural(rest).filter(|n| *n > 0).map(|n| -i64::from(n)),
+        _ => natural(text).map(i64::from),
     }
 }
 

@@ -1,84 +1,66 @@
-// Text written into lent memory from a place on. What does not fit is not written, but counts: so a first writing into no memory
-// tells how much is needed.
-ghost use Rattle.std.specs.Prelude.{◌≡◌, ℕ, ◌+◌, ◌*◌, ◌^◌, ◌<◌, ◌≤◌, List, [], ◌∷◌, length};
-ghost use Rattle.tables.specs.Laid.{Wrote, Whole};
-ghost use Rattle.tables.specs.Numerals.{spelled, spelledℤ};
+// Text printed into lent memory.
+ghost use Rattle.std.specs.Prelude.{◌≡◌, ℕ, ◌^◌, ◌<◌, ◌≤◌, List, length};
+ghost use Rattle.tables.specs.Laid.{Adds, Whole};
 
-// One byte. Each of these functions gives the place after what it wrote.
-pub fn put(out: &mut [u8], at: usize, b: u8) -> usize
-    requires { at < 2 ^ 32 }
-    ensures { Wrote out.old at (b ∷ []) out.new result }
-{
-    if at < out.len() {
-        out[at] = b;
+use itoa::{Buffer, Integer};
+
+// Lays text into lent memory from its start on. What does not fit is not written, but counts: so a first writing into no memory tells
+// how much is needed.
+#[derive(Drop)]
+pub struct Writer<'a> {
+    out: &'a mut [u8],
+    // The place after what was written.
+    pub at: usize,
+}
+
+impl<'a> Writer<'a> {
+    pub fn new(out: &'a mut [u8]) -> Writer<'a>
+        ensures same_reference { result.out.ghost_name ≡ out.entry.ghost_name }
+        ensures memory { result.out.now ≡ out.old }
+        ensures place { result.at ≡ 0 }
+    {
+        Writer { out, at: 0 }
     }
-    at + 1
-}
 
-pub fn text(out: &mut [u8], at: usize, s: &str) -> usize
-    requires { at + length s.now < 2 ^ 32 }
-    ensures { Wrote out.old at s.now out.new result }
-{
-    let bytes = s.as_bytes();
-    let mut end = at;
-    for i in 0..bytes.len() {
-        end = put(out, end, bytes[i]);
+    pub fn text(&mut self, s: &str)
+        ensures { Adds self.old s.now self.new }
+    {
+        let bytes = s.as_bytes();
+        let from = self.at.min(self.out.len());
+        let fit = bytes.len().min(self.out.len() - from);
+        self.out[from..from + fit].copy_from_slice(&bytes[..fit]);
+        self.at = self.at.saturating_add(bytes.len());
     }
-    end
-}
 
-// The decimal digits of a number.
-pub fn number(out: &mut [u8], at: usize, n: u64) -> usize
-    requires { at + 20 < 2 ^ 32 }
-    ensures wrote { Wrote out.old at (spelled n) out.new result }
-    ensures bound { result ≤ at + 20 }
-{
-    digits(out, at, n)
-}
-
-fn digits(out: &mut [u8], at: usize, n: u64) -> usize
-    requires { at + length (spelled n) < 2 ^ 32 }
-    ensures { Wrote out.old at (spelled n) out.new result }
-{
-    if n < 10 {
-        return put(out, at, b'0' + n as u8);
-    }
-    let last = digits(out, at, n / 10);
-    put(out, last, b'0' + (n % 10) as u8)
-}
-
-// The same with a minus before a number below zero.
-pub fn integer(out: &mut [u8], at: usize, z: i64) -> usize
-    requires { at + 21 < 2 ^ 32 }
-    ensures wrote { Wrote out.old at (spelledℤ z) out.new result }
-    ensures bound { result ≤ at + 21 }
-{
-    if z < 0 {
-        let digits_at = put(out, at, b'-');
-        number(out, digits_at, z.unsigned_abs())
-    } else {
-        number(out, at, z as u64)
+    // A number of any type, as `{}` prints it.
+    pub fn number<I: Integer>(&mut self, n: I)
+        ensures adds { Adds self.old (I.Integer.text n) self.new }
+        ensures short { length (I.Integer.text n) ≤ I.Integer.MAX_STR_LEN }
+    {
+        let mut digits = Buffer::new();
+        self.text(digits.format(n));
     }
 }
 
-// What is printed whole or not at all.
+// What is printed whole or not at all. No `Display`: by its contract a `write!` may fail where its writer does not.
 pub trait Printed {
     ghost bytes: { Self → List ℕ };
 
-    // Writes it from the memory's start on, and gives its length.
-    fn print(&self, out: &mut [u8]) -> usize
-        ensures wrote { Wrote out.old 0 (bytes self.now) out.new result }
-        ensures short { result < 2 ^ 32 };
+    fn print(&self, to: &mut Writer)
+        ensures adds { Adds to.old (bytes self.now) to.new }
+        ensures short { length (bytes self.now) < 2 ^ 32 };
 }
 
 // Prints into memory that is long enough, and leaves what is beyond the text; else gives the length that is needed.
 pub fn print_whole<P: Printed>(p: &P, out: &mut [u8]) -> Result<usize, u32>
     ensures { Whole (P.Printed.bytes p.now) out.old out.new result }
 {
-    let mut none = [0u8; 0];
-    let need = p.print(&mut none);
+    let mut count = Writer::new(&mut []);
+    p.print(&mut count);
+    let need = count.at;
     if out.len() < need {
         return Err(need as u32);
     }
-    Ok(p.print(out))
+    p.print(&mut Writer::new(out));
+    Ok(need)
 }

@@ -1,5 +1,5 @@
 -- The verdict on three texts. Assumes nothing.
-use Rattle.std.specs.Prelude.{◌≡◌, ℕ, cond, List, length, Ok, Err, Result, nat_lt}
+use Rattle.std.specs.Prelude.{◌≡◌, ◌≤◌, ℕ, cond, List, length, Ok, Err, Result, nat_lt}
 use Rattle.plant.specs.declared.records.Line.{Line}
 use Rattle.plant.specs.declared.records.Station.{Station}
 use Rattle.plant.specs.declared.refusal.Part.{Part}
@@ -8,7 +8,6 @@ use Rattle.plant.specs.declared.refusal.Reason.{Reason}
 use Rattle.plant.specs.declared.refusal.Reason.TheVariants.{TextTooLong}
 use Rattle.plant.specs.declared.refusal.Refusal.{Refusal}
 use Rattle.plant.specs.Nodes.{IsPlant, tree_of}
-use Rattle.plant.specs.Tables.{listed, Sound}
 use Rattle.plant.specs.Trees.{Tree}
 use Rattle.rows.specs.Lines.{lines}
 use Rattle.rows.specs.Stations.{stations}
@@ -49,11 +48,9 @@ verdict ss ls tree =
 
 -- a reading of an accepted plant
 pub record IsRead (ss ls tree : List ℕ) (p : Reading) : Type 0 where
-  pub judged : verdict ss ls tree ≡ accepted (listed p.stations) (listed p.lines) (tree_of (listed p.nodes))
-  pub stations : Sound p.stations
-  pub lines : Sound p.lines
-  pub nodes : Sound p.nodes
-  pub plant : IsPlant (listed p.stations) (listed p.lines) (listed p.nodes)
+  pub judged : verdict ss ls tree ≡ accepted p.stations.items p.lines.items (tree_of p.nodes.items)
+  pub plant : IsPlant p.stations.items p.lines.items p.nodes.items
+  pub few_nodes : length p.nodes.items ≤ 255
 
 -- the answer is the verdict
 abbrev pub Answers : List ℕ → List ℕ → List ℕ → Result Reading Refusal → Type 0

@@ -2,43 +2,37 @@
 ghost use Rattle.std.specs.Prelude.{◌≡◌, ℕ, ◌<◌, ◌≤◌, length, MatchResult};
 ghost use Rattle.texts.specs.Verdict.{Answers};
 
-use plant::limits::MAX_TEXT;
+use arrayvec::ArrayVec;
+use plant::limits::{MAX_LINES, MAX_NODES, MAX_STATIONS};
 use plant::records::{Line, Station};
 use plant::refusal::{Part, Reason, Refusal};
-use plant::table::Table;
 use plant::tree::Node;
 use rows::read::{read_lines, read_stations};
+use rows::text::Text;
 
 // What three texts write: a plant's records, and the nodes of its tree.
-#[derive(Clone, Copy)]
+#[derive(Drop)]
 pub struct Reading {
-    pub stations: Table<Station, 64>,
-    pub lines: Table<Line, 128>,
-    pub nodes: Table<Node, 255>,
+    pub stations: ArrayVec<Station, MAX_STATIONS>,
+    pub lines: ArrayVec<Line, MAX_LINES>,
+    pub nodes: ArrayVec<Node, MAX_NODES>,
 }
 
-fn within(text: &[u8], part: Part) -> Result<(), Refusal>
-    ensures { MatchResult result (λ _. length text.now ≤ 65535) (λ e. (65535 < length text.now) × (e ≡ record { reason = Reason.TextTooLong; part = part; place = 0 })) }
+fn within<'a>(text: &'a [u8], part: Part) -> Result<Text<'a>, Refusal>
+    ensures { MatchResult result (λ t. t.bytes ≡ text.entry) (λ e. (65535 < length text.now) × (e ≡ record { reason = Reason.TextTooLong; part = part; place = 0 })) }
 {
-    if text.len() > MAX_TEXT {
-        return Err(Refusal {
-            reason: Reason::TextTooLong,
-            part,
-            place: 0,
-        });
-    }
-    Ok(())
+    Text::new(text).ok_or(part.refusal(Reason::TextTooLong, 0))
 }
 
 pub fn read(stations: &[u8], lines: &[u8], tree: &[u8]) -> Result<Reading, Refusal>
     ensures { Answers stations.now lines.now tree.now result }
 {
-    within(stations, Part::Stations)?;
-    within(lines, Part::Lines)?;
-    within(tree, Part::Tree)?;
-    let stations = read_stations(stations)?;
-    let lines = read_lines(lines, stations.count)?;
-    let nodes = drawing::read(tree, stations.count, lines.as_slice())?;
+    let stations_text = within(stations, Part::Stations)?;
+    let lines_text = within(lines, Part::Lines)?;
+    let tree_text = within(tree, Part::Tree)?;
+    let stations = read_stations(stations_text)?;
+    let lines = read_lines(lines_text, stations.len())?;
+    let nodes = drawing::read(tree_text.bytes, stations.len(), &lines)?;
     Ok(Reading {
         stations,
         lines,

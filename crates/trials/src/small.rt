@@ -13,7 +13,7 @@ pub const LINES: &[u8] =
 
 pub const TREE: &[u8] = b"((0,1)s,(2,3)s)p;";
 
-// A refusal as its number, part and place; nothing refused is three zeros.
+// A refusal as its number, part and place; nothing refused is three zeros. A triple, as each case of the tests writes it down.
 pub fn told<T: Drop>(r: Result<T, Refusal>) -> (u8, u8, u32) {
     match r {
         Ok(_) => (0, 0, 0),
@@ -21,7 +21,8 @@ pub fn told<T: Drop>(r: Result<T, Refusal>) -> (u8, u8, u32) {
     }
 }
 
-// Which of the first four stations are picked, the hours and the gain; or the number of the refusal as hours.
+// Which of the first four stations are picked, the hours and the gain; or the number of the refusal as hours. One shape for both, as the
+// cases write it down.
 fn solved<Y: Yardstick>(
     plan: &Plan,
     y: &Y,
@@ -40,6 +41,7 @@ fn solved<Y: Yardstick>(
     }
 }
 
+// One function for each yardstick: that 300 cells of any figure fit into memory is not known.
 fn by_money(plan: &Plan) -> ([bool; 4], u32, i64) {
     let mut cells = [None; 300];
     solved(plan, &Money {}, &mut cells)

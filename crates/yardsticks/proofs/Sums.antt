@@ -1,33 +1,14 @@
--- Sums by number: their sizes, and the urgent pair as two sums. Assumes nothing.
-use Rattle.std.proofs.Common.{◌≡◌, ℕ, zero, suc, ◌+◌, ◌*◌, ◌≤◌, Bool, true, false, cond, List, length, pos, ◌+ℤ◌, refl, ap, arith}
+-- The urgent pair of a selection as two sums. Assumes nothing.
+use Rattle.std.proofs.Common.{◌≡◌, ℕ, zero, suc, ◌+◌, Bool, true, false, cond, List, length, pos, ◌+ℤ◌, refl, arith}
 use Rattle.plant.specs.declared.records.Station.{Station}
 use Rattle.plant.specs.declared.records.Line.{Line}
 use Rattle.plant.specs.Records.{station, line}
 use Rattle.plant.specs.Selections.{Selection, upto, open_station, open_line, figure}
-use Rattle.plant.proofs.Sums.{upto_more}
-use Rattle.yardsticks.specs.Laws.{Ops, limit, record_limit}
 use Rattle.yardsticks.specs.Models.{urgent_station, urgent_line, urgent_zero, urgent_plus, urgent_gain}
 use Rattle.yardsticks.specs.declared.figures.UrgentGain.{UrgentGain}
 use Rattle.yardsticks.specs.Urgents.{pair}
 
-module _ {F : Type 0} {nil : F} {plus : F → F → F} {above : F → F → Bool} {size : F → ℕ} (laws : Ops nil plus above size) where
-  pub cond-size : (b : Bool) (x : F) (w : ℕ) → size x ≤ w → size (cond b x nil) ≤ w
-  cond-size true x w h = h
-  cond-size false x w h = omega (arith, laws.size_nil)
-
-  -- one turn of a loop that adds up by number
-  pub sum_step : (f : ℕ → F) (n : ℕ) (x t z : F) → (n + 1) * record_limit ≤ limit → x ≡ plus t z → t ≡ upto nil plus f n → z ≡ f n → size t ≤ n * record_limit → size (f n) ≤ record_limit
-      → (x ≡ upto nil plus f (n + 1)) × (size x ≤ (n + 1) * record_limit)
-  sum_step f n x t z few is it iz st sz =
-      let m = upto_more nil plus f n in
-      let e : size z ≡ size (f n) = ap size iz in
-      let s = laws.size_plus t z (omega arith) in
-      let g : size x ≡ size (plus t z) = ap size is in
-      (cc, omega arith)
-
--- ---- the urgent pair
-
-pub urgent_parts : (b : Bool) (x : UrgentGain) → cond b x urgent_zero ≡ record { urgent = cond b x.urgent 0; gain = cond b x.gain (pos 0) }
+urgent_parts : (b : Bool) (x : UrgentGain) → cond b x urgent_zero ≡ record { urgent = cond b x.urgent 0; gain = cond b x.gain (pos 0) }
 urgent_parts true x = refl
 urgent_parts false x = refl
 

@@ -1,14 +1,12 @@
 // The gain, in cents.
 ghost use Rattle.yardsticks.specs.Models.{money_station, money_line, money_zero, money_plus, money_above, money_size};
-ghost use Rattle.std.specs.Prelude.{refl};
-ghost use Rattle.std.proofs.Common.{arith};
-ghost use Rattle.std.proofs.lemmas.Int.{ints};
+ghost use Rattle.yardsticks.specs.Cents.{cents_ops};
 
 use crate::yardstick::Yardstick;
 use plant::records::{Line, Station};
 
 #[derive(Clone, Copy)]
-pub struct Money {}
+pub struct Money;
 
 impl Yardstick for Money {
     type Figure = i64;
@@ -26,17 +24,7 @@ impl Yardstick for Money {
     ghost size = { money_size };
 
     ghost lawful = { record {
-      ops = record {
-        unit = λ a h. omega (arith, ints);
-        comm = λ a b h. omega (arith, ints);
-        assoc = λ a b c h. omega (arith, ints);
-        irreflexive = λ a. Prim.grind (arith, ints);
-        transitive = λ a b c h k. Prim.grind (arith, ints);
-        tied = λ a b h k. Prim.grind (arith, ints);
-        shift = λ a b c h k. Prim.grind (arith, ints);
-        size_nil = refl;
-        size_plus = λ a b h. Prim.grind (arith, ints);
-      };
+      ops = cents_ops;
       size_station = λ s h. h.1;
       size_line = λ l h. h;
     } };
@@ -58,6 +46,6 @@ impl Yardstick for Money {
     }
 
     fn is_above(&self, a: i64, b: i64) -> bool {
-        b < a
+        a > b
     }
 }

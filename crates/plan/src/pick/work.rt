@@ -1,54 +1,64 @@
 // Solving a plan, and ticking off what was picked.
-ghost use Rattle.std.specs.Prelude.{◌≡◌, ℕ, ◌+◌, ◌<◌, ◌≤◌, true, false, cond, not, length, MatchResult};
-ghost use Rattle.plant.specs.Selections.{Wide, among, hours as hoursBy};
-ghost use Rattle.plant.specs.Tables.{listed};
-ghost use Rattle.plan.specs.Ledger.{view};
-ghost use Rattle.plan.specs.Solves.{Solved, Left};
+ghost use Rattle.std.specs.Prelude.{◌≡◌, ℕ, ◌+◌, ◌<◌, ◌≤◌, true, false, not, length, is_some};
+ghost use Rattle.plant.specs.Selections.{among, hours as hoursBy};
+ghost use Rattle.plan.specs.Ledger.{view, stations_in, lines_in, nodes_in, budget_in};
+ghost use Rattle.plan.specs.Solves.{Solved, Left, IsLent};
 ghost use Rattle.plan.specs.Issues.{Issued, Ticked, Ended, Adds, still_open, stations};
 
-use crate::Plan;
 use crate::changes::refuse;
 use crate::pick::{Done, Issue, Pick, Progress};
+use crate::{Filled, Plan};
 use plant::records::{Line, Station};
 use plant::refusal::{Reason, Refusal};
 use plant::selection::Selection;
 use plant::site::Plant;
 use plant::tree::Node;
+use yardsticks::measure::money_of;
 use yardsticks::yardstick::Yardstick;
 
+// What a plan holds, and what a blank one has of it. A match each: one function over all would hand on a closure.
 impl Plan {
     pub fn is_blank(&self) -> bool
-        ensures { result ≡ not self.now.filled }
+        ensures { result ≡ not (is_some self.now.filled) }
     {
-        !self.filled
+        self.filled.is_none()
     }
 
     pub fn stations(&self) -> &[Station]
-        ensures { result.now ≡ listed self.now.stations }
+        ensures { result.now ≡ stations_in self.now.filled }
     {
-        let count = self.stations.count;
-        &self.stations.rows[0..count]
+        match &self.filled {
+            Some(filled) => filled.stations.as_slice(),
+            None => &[],
+        }
     }
 
     pub fn lines(&self) -> &[Line]
-        ensures { result.now ≡ listed self.now.lines }
+        ensures { result.now ≡ lines_in self.now.filled }
     {
-        let count = self.lines.count;
-        &self.lines.rows[0..count]
+        match &self.filled {
+            Some(filled) => filled.lines.as_slice(),
+            None => &[],
+        }
     }
 
     // The nodes of the tree, in the order in which their text was completed.
     pub fn nodes(&self) -> &[Node]
-        ensures { result.now ≡ listed self.now.nodes }
+        ensures { result.now ≡ nodes_in self.now.filled }
     {
-        let count = self.nodes.count;
-        &self.nodes.rows[0..count]
+        match &self.filled {
+            Some(filled) => filled.nodes.as_slice(),
+            None => &[],
+        }
     }
 
     pub fn budget(&self) -> u32
-        ensures { result ≡ self.now.budget }
+        ensures { result ≡ budget_in self.now.filled }
     {
-        self.budget
+        match &self.filled {
+            Some(filled) => filled.budget,
+            None => 0,
+        }
     }
 
     // The best list by the yardstick, or why there is none.
@@ -60,24 +70,30 @@ impl Plan {
         ensures answer { Solved Y.Yardstick.nil Y.Yardstick.plus Y.Yardstick.above Y.Yardstick.station Y.Yardstick.line self.now (length cells.old) result }
         ensures cells { Left Y.Yardstick.nil Y.Yardstick.plus Y.Yardstick.above Y.Yardstick.station Y.Yardstick.line (view self.now) cells.old cells.new }
     {
-        if !self.filled {
+        let Some(filled) = &self.filled else {
             return Err(refuse(Reason::Blank, 0));
-        }
-        let plant = Plant {
-            stations: self.stations(),
-            lines: self.lines(),
-            nodes: self.nodes(),
-            budget: self.budget,
         };
+        let plant = filled.lent();
         let selection = solver::solve::solve(&plant, y, cells)?;
-        let hours = selection.hours(self.stations());
-        let gain = selection.gain(self.stations(), self.lines());
         Ok(Pick {
             plan: self,
             selection,
-            hours,
-            gain,
+            hours: selection.hours(plant.stations),
+            gain: money_of(plant.stations, plant.lines, &selection),
         })
+    }
+}
+
+impl Filled {
+    fn lent(&self) -> Plant<'_>
+        ensures { IsLent self.now result }
+    {
+        Plant {
+            stations: self.stations.as_slice(),
+            lines: self.lines.as_slice(),
+            nodes: self.nodes.as_slice(),
+            budget: self.budget,
+        }
     }
 }
 
@@ -110,15 +126,9 @@ impl<'a> Pick<'a> {
     pub fn issue(self) -> Issue<'a>
         ensures { Issued self.entry result }
     {
-        let Pick {
-            plan,
-            selection,
-            hours: _,
-            gain: _,
-        } = self;
         Issue {
-            plan,
-            selection,
+            plan: self.plan,
+            selection: self.selection,
             ticked: Selection::none(),
         }
     }
@@ -145,12 +155,12 @@ impl<'a> Issue<'a> {
 
     fn progress(&self) -> Progress
         ensures adds { Adds self.now result }
-        ensures open { (s : Selection) → ((k : ℕ) → among s k ≡ still_open self.now k) → result.open ≡ hoursBy (stations self.now) (among s) }
+        ensures left { (s : Selection) → ((k : ℕ) → among s k ≡ still_open self.now k) → result.open ≡ hoursBy (stations self.now) (among s) }
     {
-        let open = self.selection.without(&self.ticked);
+        let left = self.selection.without(&self.ticked);
         Progress {
             ticked: self.ticked.hours(self.plan.stations()),
-            open: open.hours(self.plan.stations()),
+            open: left.hours(self.plan.stations()),
         }
     }
 
@@ -159,7 +169,7 @@ impl<'a> Issue<'a> {
         ensures { Ticked self.old station result self.new }
     {
         let k = station as usize;
-        if k >= self.plan.stations.count {
+        if k >= self.plan.stations().len() {
             return Err(refuse(Reason::NoSuchRecord, station));
         }
         if !self.selection.has(k) || self.ticked.has(k) {
@@ -173,16 +183,10 @@ impl<'a> Issue<'a> {
     pub fn end(self) -> Done
         ensures { Ended self.entry result }
     {
-        let hours = self.progress();
-        let Issue {
-            plan: _,
-            selection,
-            ticked,
-        } = self;
         Done {
-            ticked,
-            open: selection.without(&ticked),
-            hours,
+            ticked: self.ticked,
+            open: self.selection.without(&self.ticked),
+            hours: self.progress(),
         }
     }
 }

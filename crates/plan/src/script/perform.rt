@@ -1,77 +1,63 @@
 // Performs a script on a plan. A pick stands from its solve to its drop or issue, and an issue to its drop or end; while one stands, no
 // call that could change the plan is in turn.
-ghost use Rattle.std.specs.Prelude.{◌≡◌, ℕ, ◌+◌, ◌<◌, ◌≤◌, length};
+ghost use Rattle.std.specs.Prelude.{◌≡◌, ℕ, ◌+◌, ◌<◌, ◌≤◌, length, IfSome};
 
 use crate::Plan;
 use crate::pick::{Issue, Pick};
 use crate::script::{Answer, Ending, Entry, Measure, SHEET_BYTES, SheetText};
+use plant::limits::MAX_STATIONS;
 use plant::refusal::Refusal;
+use std::array;
 use yardsticks::yardstick::Yardstick;
 
-fn set(r: Result<(), Refusal>) -> Answer {
-    match r {
-        Ok(_) => Answer::Accepted,
-        Err(e) => Answer::Refused(e),
-    }
-}
-
-fn fill(plan: &mut Plan, stations: &[u8], lines: &[u8], tree: &[u8]) -> Answer {
-    match plan.fill(stations, lines, tree) {
-        Ok(_) => Answer::Filled {
-            stations: plan.stations().len(),
-            lines: plan.lines().len(),
-        },
-        Err(e) => Answer::Refused(e),
-    }
+// A refusal is an answer too.
+fn told(answer: Result<Answer, Refusal>) -> Answer {
+    answer.unwrap_or_else(Answer::Refused)
 }
 
 // A call while no pick stands, other than a solve.
-fn change(plan: &mut Plan, entry: Entry<'_>) -> Answer {
+fn change(plan: &mut Plan, entry: Entry<'_>) -> Result<Answer, Refusal> {
     match entry {
         Entry::Fill {
             stations,
             lines,
             tree,
-        } => fill(plan, stations, lines, tree),
-        Entry::Hours(hours) => set(plan.set_hours(hours)),
+        } => {
+            plan.fill(stations, lines, tree)?;
+            return Ok(Answer::Filled {
+                stations: plan.stations().len(),
+                lines: plan.lines().len(),
+            });
+        }
+        Entry::Hours(hours) => plan.set_hours(hours)?,
         Entry::Station {
             station,
             hours,
             gain,
             urgent,
-        } => set(plan.set_station(station, hours, gain, urgent)),
-        Entry::Line { line, gain } => set(plan.set_line(line, gain)),
-        Entry::Hold { station, hold } => set(plan.set_hold(station, hold)),
-        _ => Answer::OutOfTurn,
+        } => plan.set_station(station, hours, gain, urgent)?,
+        Entry::Line { line, gain } => plan.set_line(line, gain)?,
+        Entry::Hold { station, hold } => plan.set_hold(station, hold)?,
+        _ => return Ok(Answer::OutOfTurn),
     }
+    Ok(Answer::Accepted)
 }
 
-fn sheet(pick: &Pick<'_>, bytes: usize) -> Answer {
+fn sheet(pick: &Pick<'_>, bytes: usize) -> Result<Answer, Refusal> {
     let room = bytes.min(SHEET_BYTES);
     let mut out = [0u8; SHEET_BYTES];
-    match pick.sheet(&mut out[0..room]) {
-        Ok(length) => Answer::Sheet(SheetText { bytes: out, length }),
-        Err(e) => Answer::Refused(e),
-    }
+    let length = pick.sheet(&mut out[0..room])?;
+    Ok(Answer::Sheet(SheetText { bytes: out, length }))
 }
 
-fn tick(issue: &mut Issue<'_>, station: u32) -> Answer {
-    match issue.tick(station) {
-        Ok(progress) => Answer::Ticked(progress),
-        Err(e) => Answer::Refused(e),
-    }
+fn tick(issue: &mut Issue<'_>, station: u32) -> Result<Answer, Refusal> {
+    Ok(Answer::Ticked(issue.tick(station)?))
 }
 
-// The hours of each station of the plan.
-fn hours_of(plan: &Plan) -> [u32; 64] {
+// The hours of each station of the plan, and none past them.
+fn hours_of(plan: &Plan) -> [u32; MAX_STATIONS] {
     let stations = plan.stations();
-    let mut hours = [0; 64];
-    for k in 0..64 {
-        if k < stations.len() {
-            hours[k] = stations[k].hours;
-        }
-    }
-    hours
+    array::from_fn(|k| stations.get(k).map_or(0, |station| station.hours))
 }
 
 fn end(issue: Issue<'_>) -> Answer {
@@ -82,79 +68,86 @@ fn end(issue: Issue<'_>) -> Answer {
     })
 }
 
-// The lines from `i` on, while an issue stands. Gives the number of the first line after it.
-fn while_issued(
-    mut issue: Issue<'_>,
-    script: &[Entry<'_>],
-    i: usize,
-    answers: &mut [Answer],
-) -> usize
-    requires { (i ≤ length script.now) × (length script.now ≤ length answers.old) }
-    ensures { (i ≤ result) × (result ≤ length script.now) }
-{
-    for k in i..script.len() {
-        match script[k] {
-            Entry::Tick(station) => answers[k] = tick(&mut issue, station),
-            Entry::Drop => {
-                answers[k] = Answer::Dropped;
-                return k + 1;
-            }
-            Entry::End => {
-                answers[k] = end(issue);
-                return k + 1;
-            }
-            _ => answers[k] = Answer::OutOfTurn,
-        }
-    }
-    script.len()
+// A script's lines, with room for as many answers, and the line that comes next. An answer is written by index: of a slice that is written
+// through an iterator a proof knows the length alone.
+#[derive(Drop)]
+struct Lines<'s, 'e, 'a> {
+    script: &'s [Entry<'e>],
+    answers: &'a mut [Answer],
+    at: usize,
+    ghost room: { length script.now ≤ length answers.now },
 }
 
-// The lines from `i` on, while a pick stands.
-fn while_picked(pick: Pick<'_>, script: &[Entry<'_>], i: usize, answers: &mut [Answer]) -> usize
-    requires { (i ≤ length script.now) × (length script.now ≤ length answers.old) }
-    ensures { (i ≤ result) × (result ≤ length script.now) }
+impl<'s, 'e, 'a> Lines<'s, 'e, 'a> {
+    fn next(&self) -> Option<Entry<'e>>
+        ensures { IfSome result (λ _. self.now.at < length self.now.script.now) }
+    {
+        self.script.get(self.at).copied()
+    }
+
+    // Answers the line that comes next, and passes it.
+    fn answer(&mut self, answer: Answer)
+        requires { self.old.at < length self.old.script.now }
+        ensures same_reference { self.new.answers.ghost_name ≡ self.old.answers.ghost_name }
+        ensures script { self.new.script ≡ self.old.script }
+        ensures at { self.new.at ≡ self.old.at + 1 }
+    {
+        self.answers[self.at] = answer;
+        self.at += 1;
+    }
+}
+
+// The lines that follow, while an issue stands; the function after this one has other lines in turn, so one for both is no plainer.
+fn while_issued(mut issue: Issue<'_>, lines: &mut Lines)
+    ensures same_reference { lines.new.answers.ghost_name ≡ lines.old.answers.ghost_name }
+    ensures script { lines.new.script ≡ lines.old.script }
+    ensures at { lines.old.at ≤ lines.new.at }
 {
-    for k in i..script.len() {
-        match script[k] {
-            Entry::Sheet { bytes } => answers[k] = sheet(&pick, bytes),
-            Entry::Drop => {
-                answers[k] = Answer::Dropped;
-                return k + 1;
-            }
+    while let Some(entry) = lines.next() {
+        match entry {
+            Entry::Tick(station) => lines.answer(told(tick(&mut issue, station))),
+            Entry::Drop => return lines.answer(Answer::Dropped),
+            Entry::End => return lines.answer(end(issue)),
+            _ => lines.answer(Answer::OutOfTurn),
+        }
+    }
+}
+
+// The lines that follow, while a pick stands.
+fn while_picked(pick: Pick<'_>, lines: &mut Lines)
+    ensures same_reference { lines.new.answers.ghost_name ≡ lines.old.answers.ghost_name }
+    ensures script { lines.new.script ≡ lines.old.script }
+    ensures at { lines.old.at ≤ lines.new.at }
+{
+    while let Some(entry) = lines.next() {
+        match entry {
+            Entry::Sheet { bytes } => lines.answer(told(sheet(&pick, bytes))),
+            Entry::Drop => return lines.answer(Answer::Dropped),
             Entry::Issue => {
-                answers[k] = Answer::Issued;
-                return while_issued(pick.issue(), script, k + 1, answers);
+                lines.answer(Answer::Issued);
+                return while_issued(pick.issue(), lines);
             }
-            _ => answers[k] = Answer::OutOfTurn,
+            _ => lines.answer(Answer::OutOfTurn),
         }
     }
-    script.len()
 }
 
-// Solves, as the line `i` asks, and goes on with what is done to the pick.
-fn solve<Y: Yardstick>(
-    plan: &Plan,
-    y: &Y,
-    cells: &mut [Option<Y::Figure>],
-    script: &[Entry<'_>],
-    i: usize,
-    answers: &mut [Answer],
-) -> usize
-    requires { (i < length script.now) × (length script.now ≤ length answers.old) }
-    ensures { (i < result) × (result ≤ length script.now) }
+// Solves, as the next line asks, and goes on with what is done to the pick.
+fn solve<Y: Yardstick>(plan: &Plan, y: &Y, cells: &mut [Option<Y::Figure>], lines: &mut Lines)
+    requires { lines.old.at < length lines.old.script.now }
+    ensures same_reference { lines.new.answers.ghost_name ≡ lines.old.answers.ghost_name }
+    ensures script { lines.new.script ≡ lines.old.script }
+    ensures at { lines.old.at < lines.new.at }
 {
     match plan.solve(y, cells) {
-        Err(e) => {
-            answers[i] = Answer::Refused(e);
-            i + 1
-        }
+        Err(refusal) => lines.answer(Answer::Refused(refusal)),
         Ok(pick) => {
-            answers[i] = Answer::Picked {
+            lines.answer(Answer::Picked {
                 selection: pick.selection(),
                 hours: pick.hours(),
                 gain: pick.gain(),
-            };
-            while_picked(pick, script, i + 1, answers)
+            });
+            while_picked(pick, lines);
         }
     }
 }
@@ -170,28 +163,28 @@ pub fn perform<A: Yardstick, B: Yardstick>(
     answers: &mut [Answer],
 ) -> usize {
     let count = script.len().min(answers.len());
-    let script = &script[0..count];
-    let mut i = 0;
-    while i < count {
-        match script[i] {
+    let mut lines = Lines {
+        script: &script[0..count],
+        answers,
+        at: 0,
+    };
+    while let Some(entry) = lines.next() {
+        match entry {
             Entry::Solve {
                 by: Measure::First,
                 cells,
             } => {
                 let room = cells.min(first_cells.len());
-                i = solve(plan, first, &mut first_cells[0..room], script, i, answers);
+                solve(plan, first, &mut first_cells[0..room], &mut lines);
             }
             Entry::Solve {
                 by: Measure::Second,
                 cells,
             } => {
                 let room = cells.min(second_cells.len());
-                i = solve(plan, second, &mut second_cells[0..room], script, i, answers);
+                solve(plan, second, &mut second_cells[0..room], &mut lines);
             }
-            entry => {
-                answers[i] = change(plan, entry);
-                i += 1;
-            }
+            entry => lines.answer(told(change(plan, entry))),
         }
     }
     count

@@ -1,6 +1,7 @@
-use Rattle.std.proofs.Common.{false, ◌||◌, get_or, arith}
-use Rattle.drawing.proofs.Marking.{marks_all}
+use Rattle.std.proofs.Common.{rules, false, ◌||◌, get_or}
+use Rattle.drawing.proofs.Marking.{marks_made}
 use Rattle.drawing.proofs.half.union.Goals as goal
 
 pub returns : goal.returns
-returns c = marks_all (λ i. get_or c.args.a.now i false || get_or c.args.b.now i false) c.loop-i.on c.loop-i.invariant.0 (λ k lt. c.loop-i.invariant.1 k (omega arith))
+returns c =
+    marks_made _ (λ i. get_or c.args.a.now i false || get_or c.args.b.now i false) _ (λ i y q small call. search rules) _ c.from_fn.ensures.items

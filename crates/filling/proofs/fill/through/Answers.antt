@@ -1,38 +1,47 @@
-use Rattle.std.proofs.Common.{length, arith}
+use Rattle.std.proofs.Common.{arith}
 use Rattle.filling.proofs.Passes.{through_fair, through_tops}
-use Rattle.filling.proofs.Standing.{row_room}
+use Rattle.filling.proofs.Standing.{joint_at}
 use Rattle.filling.proofs.fill.through.Goals as goal
 
-pub row_of-first-requires : goal.row_of-first-requires
-row_of-first-requires g c =
-    let room = row_room c.args.plant.now c.requires.ready (length c.args.cells.now) c.args.halves.first c.args.spot.left c.first_right.result c.requires.filled.room (omega arith) in
-    record { small = (omega arith, omega arith); within = omega (arith, c.requires.known.is c.args.halves.first (omega arith)) }
+pub offset_bounds-reach-joint : goal.offset_bounds-reach-joint
+offset_bounds-reach-joint g c = let at = joint_at c.args.joint.now in omega arith
 
-pub row_of-second-requires : goal.row_of-second-requires
-row_of-second-requires g c =
-    let room = row_room c.args.plant.now c.requires.ready (length c.args.cells.now) c.args.halves.second c.second_left.result c.args.spot.right c.requires.filled.room (omega arith) in
-    record { small = (omega arith, omega arith); within = omega (arith, c.requires.known.is c.args.halves.second (omega arith)) }
+pub bounds-reach-joint : goal.bounds-reach-joint
+bounds-reach-joint g c = let at = joint_at c.args.joint.now in omega arith
 
-pub best_split-requires : goal.best_split-requires
-best_split-requires g c =
-    let p = c.args.plant.now in
-    let s = c.args.spot in
-    let first_same = rw c.first_right.ensures at c.row_of-first.ensures.same in
-    let second_same = rw c.second_left.ensures at c.row_of-second.ensures.same in
-    record {
-      some = omega (arith, c.row_of-second.ensures.long);
-      fair = through_fair g.met.Y.Yardstick.lawful p c.requires.ready c.args.cells.now s.node c.requires.filled c.args.reach.now c.requires.known c.args.halves.join c.args.halves.first c.args.halves.second c.requires.joins
-          s.left s.right s.hours c.requires.hours c.args.opened c.row_of-first.result.now c.row_of-second.result.now c.between-share.result
-          c.row_of-first.ensures.long first_same c.row_of-second.ensures.long second_same c.between-share.ensures.figure c.between-share.ensures.hours c.between-share.ensures.allowed;
-    }
+pub offset_bounds-reach-joint-2 : goal.offset_bounds-reach-joint-2
+offset_bounds-reach-joint-2 g c = let at = joint_at c.args.joint.now in omega arith
+
+pub bounds-reach-joint-2 : goal.bounds-reach-joint-2
+bounds-reach-joint-2 g c = let at = joint_at c.args.joint.now in omega arith
+
+pub row-first-requires : goal.row-first-requires
+row-first-requires g c =
+    let at = joint_at c.args.joint.now in
+    rw c.first_spot.ensures (record { node = omega arith; hours = omega (arith, c.requires.known.is c.args.joint.now.first at.first_below) })
+
+pub row-second-requires : goal.row-second-requires
+row-second-requires g c =
+    let at = joint_at c.args.joint.now in
+    rw c.second_spot.ensures (record { node = omega arith; hours = omega (arith, c.requires.known.is c.args.joint.now.second at.second_below) })
+
+pub best_split-requires-clause-fair : goal.best_split-requires-clause-fair
+best_split-requires-clause-fair g c =
+    let it = c.args.joint.now in
+    let t = it.tables.now in
+    let first = rw c.first_spot.ensures at c.row-first.ensures in
+    let second = rw c.second_spot.ensures at c.row-second.ensures in
+    through_fair g.met.Y.Yardstick.lawful t.plant.now t.cells.now it.spot.node c.requires.filled c.args.reach.now c.requires.known it.join it.first it.second (joint_at it)
+    it.spot.left it.spot.right it.spot.hours it.within c.args.opened c.row-first.result.now c.row-second.result.now c.in_ok-share.share
+    first.long (λ i lt. first.same i (omega arith)) second.long (λ i lt. second.same i (omega arith)) c.in_ok-share.ensures
 
 pub returns : goal.returns
 returns g c =
-    let p = c.args.plant.now in
-    let s = c.args.spot in
-    let first_same = rw c.first_right.ensures at c.row_of-first.ensures.same in
-    let second_same = rw c.second_left.ensures at c.row_of-second.ensures.same in
-    through_tops g.met.Y.Yardstick.lawful p c.requires.ready c.args.cells.now s.node c.requires.filled c.args.reach.now c.requires.known c.args.halves.join c.args.halves.first c.args.halves.second c.requires.joins
-    s.left s.right s.hours c.requires.hours c.args.opened c.row_of-first.result.now c.row_of-second.result.now c.between-share.result
-    c.row_of-first.ensures.long first_same c.row_of-second.ensures.long second_same c.between-share.ensures.figure c.between-share.ensures.hours c.between-share.ensures.allowed
+    let it = c.args.joint.now in
+    let t = it.tables.now in
+    let first = rw c.first_spot.ensures at c.row-first.ensures in
+    let second = rw c.second_spot.ensures at c.row-second.ensures in
+    through_tops g.met.Y.Yardstick.lawful t.plant.now t.cells.now it.spot.node c.requires.filled c.args.reach.now c.requires.known it.join it.first it.second (joint_at it)
+    it.spot.left it.spot.right it.spot.hours it.within c.args.opened c.row-first.result.now c.row-second.result.now c.in_ok-share.share
+    first.long (λ i lt. first.same i (omega arith)) second.long (λ i lt. second.same i (omega arith)) c.in_ok-share.ensures
     c.best_split.result c.best_split.ensures

@@ -1,19 +1,10 @@
-use Rattle.std.proofs.Common.{◌≡◌, ◌+◌, ◌-◌, ◌<◌, ◌≤◌, length, Some, None, sym, ◌∙◌, inl, inr, ⊎_elim, arith}
+use Rattle.std.proofs.Common.{◌≡◌, ◌-◌, ◌<◌, ◌≤◌, length, Some, None, sym, ◌∙◌, inl, inr, ⊎_elim, arith}
 use Rattle.std.proofs.lemmas.List.{get_or_read}
 use Rattle.std.proofs.lemmas.Bool.{cases_lt}
 use Rattle.cells.specs.Tops.{cell_of, joined_of}
 use Rattle.cells.proofs.Topping.{order, tops_step, tops_one}
-use Rattle.cells.proofs.Rows.{split_start, split_end}
+use Rattle.cells.proofs.Rows.{split_end}
 use Rattle.joins.proofs.joins.best_sum.Goals as goal
-
-pub loop-i-init : goal.loop-i-init
-loop-i-init g c =
-    let y = g.Y.Yardstick in
-    let i = c.from_index-i.result in (
-      split_start y.plus c.args.first.now c.args.second.now c.args.between c.args.rest i
-          (⊎_elim (λ lt. let z : i ≡ 0 = omega arith in inl z) (λ ge. let z : i + length c.args.second.now ≤ c.args.rest + 1 = omega arith in inr z) (cases_lt c.args.rest (length c.args.second.now))),
-      omega arith,
-    )
 
 pub joined-sum-requires : goal.joined-sum-requires
 joined-sum-requires g c p q e f =

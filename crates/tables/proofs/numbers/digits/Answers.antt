@@ -1,20 +1,20 @@
-use Rattle.std.proofs.Common.{◌≡◌, ◌+◌, ◌-◌, ◌*◌, min, get_or, sym, ◌∙◌, arith}
+use Rattle.std.proofs.Common.{◌≡◌, ℕ, ◌+◌, ◌*◌, ◌<◌, min, sym, ◌∙◌, subst, arith}
+use Rattle.std.specs.Char.{digit_value, NotDecimalDigitIn}
 use Rattle.tables.proofs.Capped.{capped_digits, digits_on, digits_off, digits_all}
 use Rattle.tables.proofs.numbers.digits.Goals as goal
-use Rattle.tables.proofs.numbers.digits.Goals.{then-next, else-next}
+
+pub returns-in_err-digit : goal.returns-in_err-digit
+returns-in_err-digit c =
+    let xs = c.args.text.now in
+    let none = subst (NotDecimalDigitIn 10) c.from.ensures c.in_err-digit.ensures.cases in
+    c.from_residual.ensures ∙ sym (capped_digits xs 0 ∙ sym c.loop-b.invariant ∙ digits_off xs c.loop-b.b-index c.loop-b.n c.loop-b-test.true none)
 
 pub loop-b-preserved : goal.loop-b-preserved
 loop-b-preserved c =
-    let xs = c.args.text.now in
-    let i = c.loop-b.b-index in
-    let digit = sym c.if-not-is_ascii_digit.ensures.value in
-    let bound = c.if-not-is_ascii_digit.ensures.bound in
-    let m : c.if-next.n ≡ min (c.loop-b.n * 10 + (get_or xs i 0 - 48)) 1000000001 =
-    elim c.if-next.branch [ then-next w ↦ omega arith | else-next w ↦ omega arith ] in
-    (digits_on xs i c.loop-b.n c.if-next.n c.loop-b-test.true digit m ∙ c.loop-b.invariant.0, omega arith)
+    let d = c.in_ok-digit.digit in
+    let both = subst (λ (b : ℕ). (digit_value b < 10) × (d ≡ digit_value b)) c.from.ensures c.in_ok-digit.ensures.value in
+    let total : c.min-n.result ≡ min (c.loop-b.n * 10 + d) 1000000001 = omega arith in
+    digits_on c.args.text.now c.loop-b.b-index c.loop-b.n d c.min-n.result c.loop-b-test.true both.0 both.1 total ∙ c.loop-b.invariant
 
 pub returns : goal.returns
-returns c = sym (capped_digits c.args.text.now 0 ∙ sym c.loop-b.invariant.0 ∙ digits_all c.args.text.now c.loop-b.b-index c.loop-b.n c.loop-b-test.false)
-
-pub returns-then-not-is_ascii_digit : goal.returns-then-not-is_ascii_digit
-returns-then-not-is_ascii_digit c = sym (capped_digits c.args.text.now 0 ∙ sym c.loop-b.invariant.0 ∙ digits_off c.args.text.now c.loop-b.b-index c.loop-b.n c.loop-b-test.true (sym c.if-not-is_ascii_digit.ensures.value))
+returns c = sym (capped_digits c.args.text.now 0 ∙ sym c.loop-b.invariant ∙ digits_all c.args.text.now c.loop-b.b-index c.loop-b.n c.loop-b-test.false)

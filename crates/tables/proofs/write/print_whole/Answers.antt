@@ -1,19 +1,15 @@
-use Rattle.std.proofs.Common.{◌≡◌, ◌≤◌, length, refl, ◌∙◌, arith}
-use Rattle.tables.proofs.Laying.{laid_whole}
+use Rattle.std.proofs.Common.{refl, sym, ◌∙◌, arith, rules}
+use Rattle.tables.proofs.Laying.{adds_whole, adds_count}
 use Rattle.tables.proofs.write.print_whole.Goals as goal
 
 pub returns-then-out-need : goal.returns-then-out-need
 returns-then-out-need g c =
-    let n = c.print-need.ensures.wrote.place in
-    let bs = g.P.Printed.bytes c.args.p.now in
-    let e : c.print-need.result ≡ length bs = omega arith in
-    (e, omega arith, refl)
+    let n = adds_count _ _ _ c.print.ensures.adds c.new-count.ensures.place (omega arith) in
+    (n, omega arith, refl)
 
 pub returns : goal.returns
 returns g c =
-    let n = c.print-need.ensures.wrote.place in
-    let m = c.print.ensures.wrote.place in
-    let bs = g.P.Printed.bytes c.args.p.now in
-    let e : c.print.result ≡ length bs = omega arith in
-    let fits : length bs ≤ length c.args.out.now = omega arith in
-    (e, fits, c.print.ensures.wrote.memory ∙ laid_whole c.args.out.now bs fits)
+    let n = adds_count _ _ _ c.print.ensures.adds c.new-count.ensures.place (omega arith) in
+    let kept = sym c.new.ensures.same_reference ∙ sym c.print-2.ensures.adds.same_reference in
+    let whole = adds_whole c.args.out.now _ _ _ c.print-2.ensures.adds c.new.ensures.place c.new.ensures.memory (omega arith) (omega arith) in
+    (n, omega arith, search (rules, whole, kept))

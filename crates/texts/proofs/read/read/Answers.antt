@@ -1,46 +1,40 @@
-use Rattle.std.proofs.Common.{◌≡◌, List, sym, ap, ◌∙◌, subst}
-use Rattle.std.proofs.lemmas.Result.{err_from_is_err_and}
+use Rattle.std.proofs.Common.{◌≡◌, ℕ, ◌≤◌, List, length, sym, ap, ◌∙◌, subst, arith}
 use Rattle.plant.specs.declared.records.Line.{Line}
 use Rattle.plant.specs.Nodes.{Drawn, tree_of}
-use Rattle.plant.specs.Tables.{listed}
 use Rattle.plant.specs.Trees.{net_of}
 use Rattle.drawing.specs.Verdict as Drawing
 use Rattle.drawing.proofs.Numbering.{tree_of_numbered}
-use Rattle.texts.specs.Verdict.{on_tree, accepted}
-use Rattle.texts.proofs.Judging.{tables_read, tree_wrong, is_plant}
+use Rattle.texts.specs.Verdict.{on_tree, accepted, verdict}
+use Rattle.texts.proofs.Judging.{tables_read}
 use Rattle.texts.proofs.read.read.Goals as goal
-
-pub returns-in_err-nodes : goal.returns-in_err-nodes
-returns-in_err-nodes c =
-    let p = err_from_is_err_and c.from_residual-in_err-nodes.result c.from_residual-in_err-nodes.ensures.1 in
-    let a = c.in_ok-stations.stations in
-    let b = c.in_ok-lines.lines in
-    let ss = c.args.stations.now in
-    let ls = c.args.lines.now in
-    let tree = c.args.tree.now in
-    let fault = c.in_err-nodes.ensures in
-    let read = tables_read ss ls tree a b c.in_ok-within.ensures c.in_ok-within-2.ensures c.in_ok-within-3.ensures
-    c.in_ok-stations.ensures.verdict.1 c.in_ok-stations.ensures.verdict.0 c.in_ok-lines.ensures.verdict.0 in
-    let judged = ap (λ (l : List Line). Drawing.verdict a.count l tree) (sym c.as_slice.ensures) ∙ fault.judged in
-    rw (p.1, p.2) (read ∙ tree_wrong ss ls (listed a) (listed b) _ _ judged fault.part)
 
 pub returns : goal.returns
 returns c =
-    let a = c.in_ok-stations.stations in
-    let b = c.in_ok-lines.lines in
-    let n = c.in_ok-nodes.nodes in
-    let ss = c.args.stations.now in
-    let ls = c.args.lines.now in
-    let tree = c.args.tree.now in
+    let a = c.in_ok-stations.stations.items in
+    let b = c.in_ok-lines.lines.items in
+    let ns = c.in_ok-nodes.nodes.items in
+    let s = c.in_ok-stations_text.stations_text in
+    let l = c.in_ok-lines_text.lines_text in
+    let t = c.in_ok-tree_text.tree_text in
+    let tree = t.bytes.now in
     let fine = c.in_ok-nodes.ensures in
-    let read = tables_read ss ls tree a b c.in_ok-within.ensures c.in_ok-within-2.ensures c.in_ok-within-3.ensures
-    c.in_ok-stations.ensures.verdict.1 c.in_ok-stations.ensures.verdict.0 c.in_ok-lines.ensures.verdict.0 in
-    let judged = ap (λ (l : List Line). Drawing.verdict a.count l tree) (sym c.as_slice.ensures) ∙ fine.judged in
-    let back : fine.tree ≡ tree_of (listed n) = sym (ap tree_of fine.nodes ∙ tree_of_numbered (net_of c.as_slice.result.now) fine.tree) in
+    let count : c.len-2.result ≡ length a = c.len-2.ensures.value in
+    let same : c.deref.result.now ≡ b = c.deref.ensures.0 in
+    let read = tables_read s.bytes.now l.bytes.now tree a b c.len.result s.short l.short t.short c.len.ensures.value c.in_ok-stations.ensures.verdict c.in_ok-lines.ensures.verdict in
+    let texts : verdict c.args.stations.now c.args.lines.now c.args.tree.now ≡ verdict s.bytes.now l.bytes.now tree = λ i. verdict (sym c.in_ok-stations_text.ensures i).now (sym c.in_ok-lines_text.ensures i).now (sym c.in_ok-tree_text.ensures i).now in
+    let judged : Drawing.verdict (length a) b tree ≡ Drawing.accepted fine.tree = (λ i. Drawing.verdict (sym count i) (sym same i) tree) ∙ fine.judged in
+    let back : fine.tree ≡ tree_of ns = sym (ap tree_of fine.nodes ∙ tree_of_numbered (net_of c.deref.result.now) fine.tree) in
+    let few_stations : length a ≤ 64 = omega (arith, c.len-2.ensures.fits) in
+    let few_lines : length b ≤ 128 = omega (arith, c.deref.ensures.1, ap length same) in
     record {
-      judged = read ∙ ap (on_tree (listed a) (listed b)) judged ∙ ap (accepted (listed a) (listed b)) back;
-      stations = c.in_ok-stations.ensures.verdict.1;
-      lines = c.in_ok-lines.ensures.verdict.1;
-      nodes = fine.sound;
-      plant = is_plant a b (listed n) c.in_ok-stations.ensures.verdict.1 c.in_ok-lines.ensures.verdict.1 c.in_ok-stations.ensures.range.0 c.in_ok-lines.ensures.range.0 (subst (λ (l : List Line). Drawn a.count l (listed n)) c.as_slice.ensures fine.drawn);
+      judged = texts ∙ read ∙ ap (on_tree a b) judged ∙ ap (accepted a b) back;
+      plant =
+          record {
+            stations = c.in_ok-stations.ensures.range.0;
+            lines = c.in_ok-lines.ensures.range.0;
+            few_stations = few_stations;
+            few_lines = few_lines;
+            drawn = subst (λ (x : ℕ × List Line). Drawn x.0 x.1 ns) (λ i. (count i, same i)) fine.drawn;
+          };
+      few_nodes = fine.fits;
     }

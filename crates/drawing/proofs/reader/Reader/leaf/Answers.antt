@@ -1,8 +1,8 @@
-use Rattle.drawing.proofs.Steps.{leaf_good, leaf_refused}
+use Rattle.std.proofs.Common.{rules}
+use Rattle.drawing.proofs.Bytes.{placed}
+use Rattle.drawing.proofs.Steps.{leaf_read}
 use Rattle.drawing.proofs.reader.Reader.leaf.Goals as goal
 
-pub returns-then-not-is_free : goal.returns-then-not-is_free
-returns-then-not-is_free c = leaf_refused c.args.self.now _ _ _ _ c.requires.ready c.requires.sound c.in_ok-line.ensures c.if-not-is_free.ensures c.refusal.ensures
-
 pub returns : goal.returns
-returns c = leaf_good c.args.self.now _ _ _ c.requires.ready c.in_ok-line.ensures c.if-not-is_free.ensures c.leaf.ensures
+returns c =
+    leaf_read c.args.self.now _ _ _ c.leaf.result _ c.in_ok-line.ensures c.leaf.ensures (placed _ _ _ _ c.map_err.ensures.cases (λ why e says. search rules))

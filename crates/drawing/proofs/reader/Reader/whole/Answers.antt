@@ -1,5 +1,7 @@
+use Rattle.std.proofs.Common.{rules}
+use Rattle.drawing.proofs.Bytes.{placed}
 use Rattle.std.proofs.lemmas.Result.{err_from_is_err_and}
-use Rattle.drawing.proofs.Wholes.{tree_read, whole_broken, whole_unclosed, whole_overrun, whole_not, whole_good}
+use Rattle.drawing.proofs.Wholes.{tree_read, whole_broken, whole_unclosed, whole_overrun, whole_read}
 use Rattle.drawing.proofs.reader.Reader.whole.Goals as goal
 
 pub returns-in_err-subtree : goal.returns-in_err-subtree
@@ -19,12 +21,7 @@ returns-in_err-end c =
     let h = tree_read 127 c.args.self.now c.subtree.new.self _ c.requires.blank c.in_ok-subtree.ensures in
     rw (p.1, p.2) (whole_overrun 127 c.args.stations c.args.self.now c.subtree.new.self c.subtree.new.self _ _ _ h c.in_ok-expect.ensures c.in_err-end.ensures)
 
-pub returns-then-not-is_whole : goal.returns-then-not-is_whole
-returns-then-not-is_whole c =
-    let h = tree_read 127 c.args.self.now c.subtree.new.self _ c.requires.blank c.in_ok-subtree.ensures in
-    whole_not 127 c.args.stations c.args.self.now c.subtree.new.self c.subtree.new.self _ _ _ _ c.requires.blank c.requires.stations h c.in_ok-expect.ensures c.in_ok-end.ensures c.if-not-is_whole.ensures.whole c.refusal.ensures
-
 pub returns : goal.returns
 returns c =
     let h = tree_read 127 c.args.self.now c.subtree.new.self _ c.requires.blank c.in_ok-subtree.ensures in
-    whole_good 127 c.args.stations c.args.self.now c.subtree.new.self (record { text = c.expect.new.self; sketch = c.is_whole.new.self }) _ _ _ c.requires.blank c.requires.stations h c.in_ok-expect.ensures c.in_ok-end.ensures c.if-not-is_whole.ensures.whole c.if-not-is_whole.ensures.nodes
+    whole_read 127 c.args.stations c.args.self.now c.subtree.new.self (record { text = c.expect.new.self; sketch = c.finish.new.self }) _ _ _ c.finish.result _ c.requires.blank c.requires.stations h c.in_ok-expect.ensures c.in_ok-end.ensures c.finish.ensures.whole c.finish.ensures.nodes (placed _ _ _ _ c.map_err.ensures.cases (λ why e says. search rules))

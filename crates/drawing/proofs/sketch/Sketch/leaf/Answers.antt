@@ -1,18 +1,24 @@
-use Rattle.std.proofs.Common.{◌<◌, length, arith}
-use Rattle.drawing.proofs.Marking.{tally_lt}
-use Rattle.drawing.proofs.Growing.{leaf_built}
+use Rattle.std.proofs.Common.{rules, ◌≡◌, ◌<◌, ◌∙◌, length, false, ap, get_or, arith}
+use Rattle.std.proofs.lemmas.List.{length_push}
+use Rattle.drawing.specs.Halves.{tally}
+use Rattle.drawing.specs.Sketches.{waiting}
+use Rattle.drawing.proofs.Marking.{tally_more}
 use Rattle.drawing.proofs.sketch.Sketch.leaf.Goals as goal
 
-pub put-requires : goal.put-requires
-put-requires c =
-    let r = c.requires.ready in
-    let lt : c.args.line < length c.args.self.now.named = omega (arith, r.few, r.marks, c.requires.line) in
-    record {
-      table = r.table;
-      whole = r.whole;
-      space = omega (arith, tally_lt c.args.self.now.named c.args.line lt c.requires.free, r.counted, r.marks);
-      room = c.requires.room;
-    }
-
 pub returns : goal.returns
-returns c = leaf_built c.args.line c.args.self.now _ _ _ c.requires.ready c.requires.line c.requires.free c.two_stations.ensures c.put.ensures
+returns c = (
+  search rules,
+  record {
+    lines = search rules;
+    named = search rules;
+    nodes = search rules;
+    halves = search rules;
+    count = search rules;
+    room = search rules;
+    counted = λ k.
+        let s = c.args.self.now in
+        let lt : c.args.line < length s.named = search rules in
+        let free : get_or s.named c.args.line false ≡ false = search rules in
+        omega (arith, k, c.put.ensures.count, ap length c.put.ensures.halves ∙ length_push (waiting s) _, ap tally c.put.ensures.named ∙ tally_more s.named c.args.line lt free);
+  },
+)

@@ -4,6 +4,6 @@ use Rattle.drawing.proofs.sketch.Sketch.new.Goals as goal
 
 pub returns : goal.returns
 returns c = record {
-  blank = blank_new _ c.requires.few c.none_named.ensures c.new-nodes.ensures.sound c.new-nodes.ensures.listed c.requires.whole c.requires.empty c.requires.room;
+  blank = blank_new _ refl c.new.ensures c.requires.empty c.requires.room;
   lines = refl;
 }

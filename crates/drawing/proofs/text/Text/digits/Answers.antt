@@ -9,6 +9,5 @@ loop-d-preserved c =
     let inv = c.loop-d.invariant in (
       digits_more c.loop-d.n _ c.in-Some.d _ _ a.1 a.2 c.min-n.ensures ∙ inv.0,
       inv.1,
-      record { within = omega arith; short = inv.2.short },
       omega (arith, c.min-n.ensures),
     )

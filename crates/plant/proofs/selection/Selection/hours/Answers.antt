@@ -10,5 +10,5 @@ loop-i-preserved c =
     let b = among c.args.self.now c.loop-i.i in
     let m = upto_more 0 ◌+◌ (open_station 0 (λ s. s.hours) ss (among c.args.self.now)) c.loop-i.i in
     let small = cond_small b (station ss c.loop-i.i).hours 1000 (c.requires.range c.loop-i.i c.loop-i-test.true).0 in
-    let r : c.hours_if-total.result ≤ 1000 = search (arith, small) in
+    let r : c.counted-total.result ≤ 1000 = search (arith, small) in
     (cc, omega arith)

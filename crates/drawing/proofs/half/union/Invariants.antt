@@ -1,5 +1,0 @@
-use Rattle.std.proofs.Common.{◌≡◌, ℕ, ◌<◌, false, ◌||◌, length, get_or}
-use Rattle.drawing.proofs.half.union.Given as goal
-
-abbrev pub invariant-loop-i : goal.invariant-loop-i
-invariant-loop-i l = (length l.on ≡ 64) × ((k : ℕ) → k < l.i → get_or l.on k false ≡ (get_or l.a k false || get_or l.b k false))
