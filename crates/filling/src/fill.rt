@@ -102,7 +102,8 @@ fn middle_hours(plant: &Plant<'_>, join: Join, first: usize) -> usize
     }
 }
 
-// The hours of all inner stations of a node, as far as the budget goes: past this reach its rows are empty.
+// The hours of all inner stations of a node, as far as the budget goes: past this reach its rows are empty. That a number is a node's stands
+// in a clause, here and below: a type of such numbers would be no plainer than the number that a loop counts.
 fn reach_of(plant: &Plant<'_>, reach: &[usize], node: usize) -> usize
     requires within { node < length plant.now.nodes.now }
     requires known { Known plant.now reach.now node }

@@ -98,7 +98,8 @@ fn end_share<Y: Yardstick>(
     share_of(tables.y, &tables.plant.stations[station], opened)
 }
 
-// The best that the root offers with its ends in these states.
+// The best that the root offers with its ends in these states. That all is filled stands in clauses: it names the choices, so no type can
+// hold it.
 fn ends_offer<Y: Yardstick>(
     tables: &Tables<'_, '_, '_, Y>,
     left: bool,

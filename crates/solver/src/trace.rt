@@ -83,7 +83,7 @@ fn first_split<Y: Yardstick>(joint: &Joint<'_, Y>, goal: Y::Figure) -> Option<Sp
     found
 }
 
-// The first split that attains the cell, which holds something.
+// The first split that attains the cell, which holds something. What is filled stands in clauses here too: it names the choices.
 fn split_at<Y: Yardstick>(joint: &Joint<'_, Y>) -> Split
     requires filled { AllFilled joint.now.tables.now }
     requires holds { Holds joint.now.tables.now.plant.now joint.now.tables.now.cells.now joint.now.spot }
