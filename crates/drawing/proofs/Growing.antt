@@ -5,6 +5,7 @@ use Rattle.std.proofs.lemmas.Bool.{cases_lt}
 use Rattle.plant.specs.declared.tree.Join.{Join}
 use Rattle.plant.specs.declared.tree.Shape.TheVariants as S
 use Rattle.plant.specs.Held.{room, Popped}
+use Rattle.plant.specs.Tables.{listed}
 use Rattle.drawing.specs.declared.half.Half.{Half}
 use Rattle.drawing.specs.declared.sketch.Sketch.{Sketch}
 use Rattle.drawing.specs.Halves.{Meet, marks, tally}
@@ -37,9 +38,9 @@ join_grown j before after mid n st a b x y hs lines named nodes at w r e g =
     record {
       lines = g.lines ∙ lines;
       named = g.named ∙ named;
-      nodes = g.nodes ∙ (λ i. (nodes i).items ++ record { shape = S.Join j (w.first i).node (w.second i).node; left = (w.first i).left; right = (w.second i).right } ∷ []);
+      nodes = g.nodes ∙ (λ i. listed (nodes i) ++ record { shape = S.Join j (w.first i).node (w.second i).node; left = (w.first i).left; right = (w.second i).right } ∷ []);
       halves = g.halves ∙ (λ i. w.under i ++ h i ∷ []);
-      count = g.count ∙ ap (λ v. length v.items + 1) nodes;
+      count = g.count ∙ ap (λ v. length (listed v) + 1) nodes;
       room = g.room ∙ r;
     }
 
@@ -52,7 +53,7 @@ tally_none : (n : ℕ) → tally (replicate n false) ≡ 0
 tally_none zero = refl
 tally_none (suc n) = tally_none n
 
-pub blank_new : (s : Sketch) → s.named ≡ replicate 128 false → s.nodes.items ≡ [] → waiting s ≡ [] → room s.halves ≡ 128 → Blank s
+pub blank_new : (s : Sketch) → s.named ≡ replicate 128 false → listed s.nodes ≡ [] → waiting s ≡ [] → room s.halves ≡ 128 → Blank s
 blank_new s named none empty roomy = record {
   unnamed = λ k. ap (λ l. get_or l k false) named ∙ unmarked 128 k;
   none_done = ap length none;

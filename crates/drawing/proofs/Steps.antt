@@ -13,6 +13,7 @@ use Rattle.plant.specs.declared.tree.Node.{Node}
 use Rattle.plant.specs.Trees.{Net, net_of, Tree, leaf, uses}
 use Rattle.plant.specs.Nodes.{size, numbered, node, joined}
 use Rattle.plant.specs.Held.{room}
+use Rattle.plant.specs.Tables.{listed}
 use Rattle.drawing.specs.declared.mark.Mark.TheVariants.{Comma, Close}
 use Rattle.drawing.specs.declared.half.Half.{Half}
 use Rattle.drawing.specs.declared.text.Text.{Text}
@@ -107,7 +108,7 @@ pub record Halves (d : ℕ) (r₀ r₃ : Reader) (t₄ : Text) : Type 0 where
   pub reads : pair d (net r₀.sketch) (length r₀.sketch.lines.now) (named_in r₀.sketch.named) (rest r₀.text) ≡ join_letter (net r₀.sketch) first second (rest t₄)
   pub named : named_in r₃.sketch.named ≡ with_lines second (with_lines first (named_in r₀.sketch.named))
   pub held : waiting r₃.sketch ≡ waiting r₀.sketch ++ half (net r₀.sketch) (done r₀.sketch) first ∷ half (net r₀.sketch) (done r₀.sketch + size first) second ∷ []
-  pub nodes : r₃.sketch.nodes.items ≡ r₀.sketch.nodes.items ++ (numbered (net r₀.sketch) (done r₀.sketch) first ++ numbered (net r₀.sketch) (done r₀.sketch + size first) second)
+  pub nodes : listed r₃.sketch.nodes ≡ listed r₀.sketch.nodes ++ (numbered (net r₀.sketch) (done r₀.sketch) first ++ numbered (net r₀.sketch) (done r₀.sketch + size first) second)
   pub count : done r₃.sketch ≡ done r₀.sketch + size first + size second
   pub room : room r₃.sketch.halves ≡ room r₀.sketch.halves
   pub counted : Counted r₀.sketch → Counted r₃.sketch
@@ -131,7 +132,7 @@ halves d {r₀} {r₁} {r₃} {t₂} {t₄} a p b q =
       reads = rw (a.reads.1, p.told, bb, q.told) refl;
       named = two.named ∙ ap (with_lines B) one.named;
       held = two_halves _ _ _ _ _ one.halves (two.halves ∙ (λ i. waiting r₁.sketch ++ half (net_of (one.lines i).now) (one.count i) B ∷ []));
-      nodes = two.nodes ∙ (λ i. one.nodes i ++ numbered (net_of (one.lines i).now) (one.count i) B) ∙ append_assoc (r₀.sketch.nodes.items) (numbered N n A) (numbered N (n + size A) B);
+      nodes = two.nodes ∙ (λ i. one.nodes i ++ numbered (net_of (one.lines i).now) (one.count i) B) ∙ append_assoc (listed r₀.sketch.nodes) (numbered N n A) (numbered N (n + size A) B);
       count = two.count ∙ ap (λ k. k + size B) one.count;
       room = two.room ∙ one.room;
       counted = λ c. two.counted (one.counted c);
@@ -162,8 +163,8 @@ pair_built d {r₀} {r₃} {t₄} j s h w =
         nodes =
             g.nodes
             ∙ (λ i. h.nodes i ++ record { shape = S.Join j (n + size A - 1) (n + size A + size B - 1); left = ends.0 i; right = ends.1 i } ∷ [])
-            ∙ three (r₀.sketch.nodes.items) (numbered N n A) (numbered N (n + size A) B) _
-            ∙ ap (λ l. r₀.sketch.nodes.items ++ l) (numbered_joined N n j A B);
+            ∙ three (listed r₀.sketch.nodes) (numbered N n A) (numbered N (n + size A) B) _
+            ∙ ap (λ l. listed r₀.sketch.nodes ++ l) (numbered_joined N n j A B);
         halves = g.halves ∙ ap (λ x. waiting r₀.sketch ++ x ∷ []) new;
         count = omega (arith, g.count, h.count, joined_size j A B);
         room = g.room ∙ h.room;

@@ -5,10 +5,11 @@ use Rattle.plant.specs.declared.records.Line.{Line}
 use Rattle.plant.specs.declared.refusal.Refusal.{Refusal}
 use Rattle.plant.specs.declared.refusal.Reason.{Reason}
 use Rattle.plant.specs.declared.refusal.Reason.TheVariants.{TextTooLong, MemoryTooShort, TableGrammar, FieldCount, FieldForm, RowNumber, RowCount, LineEnds, TreeGrammar, TooDeep, LeafNumber, HalvesApart, NotThePlant, Blank, NoSuchRecord, OutOfRange, NothingFits, NotOpen}
+use Rattle.plant.specs.declared.table.Table.{Table}
 use Rattle.plant.specs.declared.tree.Node.{Node}
 use Rattle.plant.specs.Trees.{Net, net_of, Tree, Draws}
 use Rattle.plant.specs.Nodes.{numbered, tree_of, Drawn}
-use Rattle.arrayvec.specs.ArrayVec.{ArrayVec, array_vec_len}
+use Rattle.plant.specs.Tables.{listed}
 use Rattle.drawing.specs.Grammar.{Out, good, bad, whole}
 use Rattle.drawing.specs.Reads.{Faulted}
 use Rattle.drawing.specs.Written.{written}
@@ -162,17 +163,17 @@ first_refused n ls s r p few joins w =
 pub refused_at_first_fault : RefusedAtFirstFault
 refused_at_first_fault = record { only_first = first_fault; all_first = first_refused }
 
-pub answers_good : (n : ℕ) (ls ks : List Line) (s : List ℕ) (r : ArrayVec Node) (t : Tree) (u : List ℕ) → Joins n ls → n ≤ 64 → ks ≡ ls → whole 127 (net_of ks) n (length ks) s ≡ good t u → array_vec_len r ≤ 255 → r.items ≡ numbered (net_of ks) 0 t → Accepted n ls s r
+pub answers_good : (n : ℕ) (ls ks : List Line) (s : List ℕ) (r : Table Node 255) (t : Tree) (u : List ℕ) → Joins n ls → n ≤ 64 → ks ≡ ls → whole 127 (net_of ks) n (length ks) s ≡ good t u → length (listed r) ≤ 255 → listed r ≡ numbered (net_of ks) 0 t → Accepted n ls s r
 answers_good n ls ks s r t u joins few same e fits nodes =
     let f : whole 127 (net_of ls) n (length ls) s ≡ good t u = subst (λ x. whole 127 (net_of x) n (length x) s ≡ good t u) same e in
-    let ns : r.items ≡ numbered (net_of ls) 0 t = nodes ∙ ap (λ x. numbered (net_of x) 0 t) same in
+    let ns : listed r ≡ numbered (net_of ls) 0 t = nodes ∙ ap (λ x. numbered (net_of x) 0 t) same in
     record {
       tree = t;
       judged = ap (settled (length s)) f;
       writes = whole_writes n ls s t u few joins f;
       fits = fits;
       nodes = ns;
-      drawn = numbered_drawn n ls r.items t ns (whole_writes n ls s t u few joins f).draws;
+      drawn = numbered_drawn n ls (listed r) t ns (whole_writes n ls s t u few joins f).draws;
     }
 
 pub answers_bad : (n : ℕ) (ls ks : List Line) (s : List ℕ) (e : Refusal) → Joins n ls → n ≤ 64 → ks ≡ ls → Faulted e (whole 127 (net_of ks) n (length ks) s) s → Refused n ls s e

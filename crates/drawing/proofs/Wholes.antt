@@ -9,6 +9,7 @@ use Rattle.plant.specs.declared.refusal.Reason.TheVariants.{NotThePlant}
 use Rattle.plant.specs.declared.refusal.Part.TheVariants as P
 use Rattle.plant.specs.Trees.{Net, Tree, left, station_of, uses}
 use Rattle.plant.specs.Nodes.{numbered}
+use Rattle.plant.specs.Tables.{listed}
 use Rattle.drawing.specs.declared.mark.Mark.TheVariants.{Semicolon}
 use Rattle.drawing.specs.declared.half.Half.{Half}
 use Rattle.drawing.specs.declared.text.Text.{Text}
@@ -21,6 +22,7 @@ use Rattle.drawing.specs.Sketches.{net, done, waiting, named_in, Built, Complete
 use Rattle.drawing.specs.Readings.{ReadsTree, ReadsWhole}
 use Rattle.drawing.proofs.Bytes.{faulted, Placed}
 use Rattle.drawing.proofs.Marking.{get_or-marks}
+use Rattle.plant.proofs.Listed.{listed_length}
 use Rattle.drawing.proofs.Meeting.{below_all, below_at}
 
 starts : (s : Sketch) → Blank s → named_in s.named ≡ none_named
@@ -125,12 +127,12 @@ whole_not d n before after last t u v e b few h l s w is =
 whole_good : (d n : ℕ) (before after last : Reader) (t : Text) (u v : Unit {0}) → Blank before.sketch → n ≤ 64 → (h : TreeRead d before after) → Reads (lit Semicolon) after.text t (Ok u) → Reads stop t t (Ok v) → ((hs : List Half) (x : Half) → waiting after.sketch ≡ hs ++ x ∷ [] → Decides true (Complete after.sketch n x)) → last.sketch.nodes ≡ after.sketch.nodes → ReadsWhole d n before last (Ok tt)
 whole_good d n before after last t u v b few h l s w same =
     let N = net before.sketch in
-    let none : before.sketch.nodes.items ≡ [] = nil_from_length before.sketch.nodes.items b.none_done in (
+    let none : listed before.sketch.nodes ≡ [] = nil_from_length (listed before.sketch.nodes) b.none_done in (
       h.tree,
       rest t,
       ended d n before after t u v true h l s (judged d before after n true b few h w),
-      last.sketch.fits,
-      ap (λ x. x.items) same ∙ h.built.nodes ∙ (λ i. none i ++ numbered N (b.none_done i) h.tree),
+      rw (listed_length last.sketch.nodes) last.sketch.nodes.sound.1,
+      ap listed same ∙ h.built.nodes ∙ (λ i. none i ++ numbered N (b.none_done i) h.tree),
     )
 
 pub whole_read : (d n : ℕ) (before after last : Reader) (t : Text) (u v : Unit {0}) (w : Result (Unit {0}) Reason) (r : Result (Unit {0}) Refusal) → Blank before.sketch → n ≤ 64 → TreeRead d before after → Reads (lit Semicolon) after.text t (Ok u) → Reads stop t t (Ok v) → Finished n after.sketch w → last.sketch.nodes ≡ after.sketch.nodes → Placed w t.pos r → ReadsWhole d n before last r

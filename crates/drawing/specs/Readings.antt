@@ -3,7 +3,7 @@ use Rattle.std.specs.Prelude.{◌≡◌, ℕ, ◌≤◌, List, length, Ok, Err, 
 use Rattle.plant.specs.declared.refusal.Refusal.{Refusal}
 use Rattle.plant.specs.Trees.{Net, Tree}
 use Rattle.plant.specs.Nodes.{numbered}
-use Rattle.arrayvec.specs.ArrayVec.{array_vec_len}
+use Rattle.plant.specs.Tables.{listed}
 use Rattle.drawing.specs.declared.reader.Reader.{Reader}
 use Rattle.drawing.specs.Grammar.{Out, good, Lines, whole}
 use Rattle.drawing.specs.Reads.{rest, Faulted}
@@ -22,5 +22,5 @@ pub record ReadsTree (f : Net → ℕ → Lines → List ℕ → Out Tree) (befo
 abbrev pub ReadsWhole : ℕ → ℕ → Reader → Reader → Result (Unit {0}) Refusal → Type 0
 ReadsWhole d n before after (Ok x) =
     (t : Tree) × (u : List ℕ) × (whole d (net before.sketch) n (length before.sketch.lines.now) (rest before.text) ≡ good t u)
-    × (array_vec_len after.sketch.nodes ≤ 255) × (after.sketch.nodes.items ≡ numbered (net before.sketch) 0 t)
+    × (length (listed after.sketch.nodes) ≤ 255) × (listed after.sketch.nodes ≡ numbered (net before.sketch) 0 t)
 ReadsWhole d n before after (Err e) = Faulted e (whole d (net before.sketch) n (length before.sketch.lines.now) (rest before.text)) before.text.src.now

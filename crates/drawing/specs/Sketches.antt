@@ -8,7 +8,7 @@ use Rattle.plant.specs.declared.tree.Shape.TheVariants as S
 use Rattle.plant.specs.Trees.{Net, net_of, Tree, leaf}
 use Rattle.plant.specs.Nodes.{size, numbered}
 use Rattle.plant.specs.Held.{held, room}
-use Rattle.arrayvec.specs.ArrayVec.{array_vec_len}
+use Rattle.plant.specs.Tables.{listed}
 use Rattle.drawing.specs.declared.half.Half.{Half}
 use Rattle.drawing.specs.declared.sketch.Sketch.{Sketch}
 use Rattle.drawing.specs.Grammar.{Lines, with_lines}
@@ -20,7 +20,7 @@ net s = net_of s.lines.now
 
 -- how many nodes are complete
 abbrev pub done : Sketch → ℕ
-done s = array_vec_len s.nodes
+done s = length (listed s.nodes)
 
 abbrev pub waiting : Sketch → List Half
 waiting s = held s.halves
@@ -41,7 +41,7 @@ free s k = nat_lt k (length s.lines.now) && not (slice_index_or s.named k false)
 pub record Grown (shape : Shape) (h : Half) (hs : List Half) (before after : Sketch) : Type 0 where
   pub lines : after.lines ≡ before.lines
   pub named : after.named ≡ before.named
-  pub nodes : after.nodes.items ≡ before.nodes.items ++ record { shape = shape; left = h.left; right = h.right } ∷ []
+  pub nodes : listed after.nodes ≡ listed before.nodes ++ record { shape = shape; left = h.left; right = h.right } ∷ []
   pub halves : waiting after ≡ hs ++ h ∷ []
   pub count : done after ≡ done before + 1
   pub room : room after.halves ≡ room before.halves
@@ -60,7 +60,7 @@ Joined j before after (Ok x) =
 pub record Built (t : Tree) (before after : Sketch) : Type 0 where
   pub lines : after.lines ≡ before.lines
   pub named : named_in after.named ≡ with_lines t (named_in before.named)
-  pub nodes : after.nodes.items ≡ before.nodes.items ++ numbered (net before) (done before) t
+  pub nodes : listed after.nodes ≡ listed before.nodes ++ numbered (net before) (done before) t
   pub halves : waiting after ≡ waiting before ++ half (net before) (done before) t ∷ []
   pub count : done after ≡ done before + size t
   pub room : room after.halves ≡ room before.halves

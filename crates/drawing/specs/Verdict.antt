@@ -4,11 +4,12 @@ use Rattle.plant.specs.declared.records.Line.{Line}
 use Rattle.plant.specs.declared.refusal.Reason.{Reason}
 use Rattle.plant.specs.declared.refusal.Refusal.{Refusal}
 use Rattle.plant.specs.declared.refusal.Part.TheVariants as P
+use Rattle.plant.specs.declared.table.Table.{Table}
 use Rattle.plant.specs.declared.tree.Node.{Node}
 use Rattle.plant.specs.Records.{line}
 use Rattle.plant.specs.Trees.{Tree, net_of, Draws}
 use Rattle.plant.specs.Nodes.{numbered, Drawn}
-use Rattle.arrayvec.specs.ArrayVec.{ArrayVec, array_vec_len}
+use Rattle.plant.specs.Tables.{listed}
 use Rattle.drawing.specs.Grammar.{Out, good, bad, whole}
 use Rattle.drawing.specs.Faults.{Grammatical, FirstFault}
 
@@ -36,13 +37,13 @@ pub record Writes (n : ℕ) (ls : List Line) (s : List ℕ) (t : Tree) : Type 0 
   pub draws : Draws (net_of ls) n (length ls) t
 
 -- the nodes of the accepted tree
-pub record Accepted (n : ℕ) (ls : List Line) (s : List ℕ) (r : ArrayVec Node) : Type 0 where
+pub record Accepted (n : ℕ) (ls : List Line) (s : List ℕ) (r : Table Node 255) : Type 0 where
   pub tree : Tree
   pub judged : verdict n ls s ≡ accepted tree
   pub writes : Writes n ls s tree
-  pub fits : array_vec_len r ≤ 255
-  pub nodes : r.items ≡ numbered (net_of ls) 0 tree
-  pub drawn : Drawn n ls r.items
+  pub fits : length (listed r) ≤ 255
+  pub nodes : listed r ≡ numbered (net_of ls) 0 tree
+  pub drawn : Drawn n ls (listed r)
 
 pub record Refused (n : ℕ) (ls : List Line) (s : List ℕ) (e : Refusal) : Type 0 where
   pub judged : verdict n ls s ≡ refused e.reason e.place
@@ -50,7 +51,7 @@ pub record Refused (n : ℕ) (ls : List Line) (s : List ℕ) (e : Refusal) : Typ
   pub part : e.part ≡ P.Tree
 
 -- the answer is the verdict
-abbrev pub Answers : ℕ → List Line → List ℕ → Result (ArrayVec Node) Refusal → Type 0
+abbrev pub Answers : ℕ → List Line → List ℕ → Result (Table Node 255) Refusal → Type 0
 Answers n ls s (Ok r) = Accepted n ls s r
 Answers n ls s (Err e) = Refused n ls s e
 

@@ -10,12 +10,12 @@ mod reader;
 mod sketch;
 mod text;
 
-use arrayvec::ArrayVec;
 use half::Half;
 use plant::limits::{MAX_NODES, STACK_ENTRIES};
 use plant::records::Line;
 use plant::refusal::Refusal;
 use plant::stack::Stack;
+use plant::table::Table;
 use plant::tree::Node;
 use reader::Reader;
 use sketch::Sketch;
@@ -23,11 +23,7 @@ use text::Text;
 
 // The nodes of the tree that the text draws, for a plant of so many stations and these lines. Bytes, as the reader's own type of a text
 // holds the limit.
-pub fn read(
-    text: &[u8],
-    stations: usize,
-    lines: &[Line],
-) -> Result<ArrayVec<Node, MAX_NODES>, Refusal>
+pub fn read(text: &[u8], stations: usize, lines: &[Line]) -> Result<Table<Node, MAX_NODES>, Refusal>
     requires text { length text.now ≤ 65535 }
     requires stations { stations ≤ 64 }
     requires lines { length lines.now ≤ 128 }

@@ -1,15 +1,15 @@
 // The tree as far as its text is read: the lines named, the nodes complete, and the halves that wait.
 ghost use Rattle.std.specs.Prelude.{◌≡◌, ◌+◌, ◌*◌, ◌≤◌, length};
-ghost use Rattle.arrayvec.specs.ArrayVec.{array_vec_len};
 ghost use Rattle.plant.specs.Held.{held};
+ghost use Rattle.plant.specs.Tables.{listed};
 ghost use Rattle.drawing.specs.Halves.{tally};
 
 use crate::half::{Half, all_marked, two_stations, union};
-use arrayvec::ArrayVec;
 use plant::limits::{MAX_LINES, MAX_NODES};
 use plant::records::Line;
 use plant::refusal::Reason;
 use plant::stack::Stack;
+use plant::table::Table;
 use plant::tree::{Join, Node, Shape};
 
 // Each line named brings a node and a half, and each join one node more for one half less.
@@ -17,12 +17,11 @@ use plant::tree::{Join, Node, Shape};
 pub struct Sketch<'l, 'h> {
     pub lines: &'l [Line],
     pub named: [bool; MAX_LINES],
-    pub nodes: ArrayVec<Node, MAX_NODES>,
+    pub nodes: Table<Node, MAX_NODES>,
     pub halves: Stack<'h, Half>,
     pub ghost few: { length lines.now ≤ 128 },
     pub ghost wide: { length named ≡ 128 },
-    pub ghost fits: { array_vec_len nodes ≤ 255 },
-    pub ghost counted: { array_vec_len nodes + length (held halves) ≤ 2 * tally named },
+    pub ghost counted: { length (listed nodes) + length (held halves) ≤ 2 * tally named },
 }
 
 impl<'l, 'h> Sketch<'l, 'h> {
@@ -41,7 +40,7 @@ impl<'l, 'h> Sketch<'l, 'h> {
         Sketch {
             lines,
             named: [false; MAX_LINES],
-            nodes: ArrayVec::new(),
+            nodes: Table::new(Node::default()),
             halves,
         }
     }
@@ -64,7 +63,7 @@ impl<'l, 'h> Sketch<'l, 'h> {
             left: half.left,
             right: half.right,
         };
-        self.nodes.push(node);
+        let _ = self.nodes.push(node);
         let _ = self.halves.push(half);
     }
 
@@ -79,7 +78,7 @@ impl<'l, 'h> Sketch<'l, 'h> {
         self.named[line] = true;
         let ends = self.lines[line];
         let half = Half {
-            node: self.nodes.len(),
+            node: self.nodes.count,
             left: ends.from,
             right: ends.to,
             stations: two_stations(ends.from, ends.to),
@@ -99,7 +98,7 @@ impl<'l, 'h> Sketch<'l, 'h> {
             return Err(Reason::HalvesApart);
         }
         let half = Half {
-            node: self.nodes.len(),
+            node: self.nodes.count,
             left: first.left,
             right: second.right,
             stations: union(&first.stations, &second.stations),

@@ -24,7 +24,7 @@ fn judged(text: &[u8]) -> Result<usize, (Reason, u32)>
     requires { length text.now ≤ 65535 }
 {
     read(text, 4, &lines())
-        .map(|nodes| nodes.len())
+        .map(|nodes| nodes.count)
         .map_err(|e| (e.reason, e.place))
 }
 

@@ -6,6 +6,7 @@ use Rattle.plant.specs.declared.records.Station.{Station}
 use Rattle.plant.specs.declared.refusal.Refusal.{Refusal}
 use Rattle.plant.specs.declared.selection.Selection.{Selection as Marks}
 use Rattle.plant.specs.declared.site.Plant.{Plant}
+use Rattle.plant.specs.Tables.{listed}
 use Rattle.plant.specs.Nodes.{tree_of, size}
 use Rattle.plant.specs.Selections.{among, hours, gain}
 use Rattle.plant.specs.Trees.{Tree, net_of}
@@ -32,8 +33,8 @@ needs_is : (f : Filled) (q : Plant) → IsLent f q → needs q ≡ need (books f
 needs_is f q l = λ i. need_of (length (l.lines i)) (l.budget i)
 
 -- as many nodes as the tree has
-nodes_are : (f : Filled) → length f.nodes.items ≡ size (tree_of f.nodes.items)
-nodes_are f = ap length f.plant.drawn.ordered ∙ length-numbered (net_of f.lines.items) 0 (tree_of f.nodes.items)
+nodes_are : (f : Filled) → length (listed f.nodes) ≡ size (tree_of (listed f.nodes))
+nodes_are f = ap length f.plant.drawn.ordered ∙ length-numbered (net_of (listed f.lines)) 0 (tree_of (listed f.nodes))
 
 module _ {F : Type 0} (nil : F) (plus : F → F → F) (above : F → F → Bool) (by : Station → F) (on : Line → F) (p : Plan) (f : Filled) (q : Plant) (l : IsLent f q) (e : p.filled ≡ Some f) (before after : List (Option F)) where
   tree_is : tree q ≡ (books f).tree
@@ -47,18 +48,18 @@ module _ {F : Type 0} (nil : F) (plus : F → F → F) (above : F → F → Bool
             let fits : h ≤ q.budget = omega (arith, low, l.budget) in
             let at = t.cells v x y h many fits in
             let P : List Station → List Line → Tree → ℕ → Type 0 = λ ss ls u b. Tops above (CellChoice nil plus by on ss ls (sub u v) x y h) (cell_of after (place (b + 1) v x y h)) in
-            let moved : ◌≡◌ {A = Type 0} (P q.stations.now q.lines.now (tree q) q.budget) (P f.stations.items f.lines.items (books f).tree f.budget) = λ i. P (l.stations i) (l.lines i) (tree_is i) (l.budget i) in
+            let moved : ◌≡◌ {A = Type 0} (P q.stations.now q.lines.now (tree q) q.budget) (P (listed f.stations) (listed f.lines) (books f).tree f.budget) = λ i. P (l.stations i) (l.lines i) (tree_is i) (l.budget i) in
             transport moved at;
         beyond = λ k past. t.beyond k (omega (arith, past, needs_is f q l));
       }
 
-  best_is : (s : Marks) → Best nil plus above by on q.stations.now q.lines.now (tree q) q.budget (among s) → Best nil plus above by on f.stations.items f.lines.items (books f).tree f.budget (among s)
+  best_is : (s : Marks) → Best nil plus above by on q.stations.now q.lines.now (tree q) q.budget (among s) → Best nil plus above by on (listed f.stations) (listed f.lines) (books f).tree f.budget (among s)
   best_is s b =
-      let moved : ◌≡◌ {A = Type 0} (Best nil plus above by on q.stations.now q.lines.now (tree q) q.budget (among s)) (Best nil plus above by on f.stations.items f.lines.items (books f).tree f.budget (among s)) =
+      let moved : ◌≡◌ {A = Type 0} (Best nil plus above by on q.stations.now q.lines.now (tree q) q.budget (among s)) (Best nil plus above by on (listed f.stations) (listed f.lines) (books f).tree f.budget (among s)) =
       λ i. Best nil plus above by on (l.stations i) (l.lines i) (tree_is i) (l.budget i) (among s) in
       transport moved b
 
-  pub picked : (s : Marks) (h : ℕ) (z : ℤ) → Chosen nil plus above by on q before after s → h ≡ hours f.stations.items (among s) → z ≡ gain f.stations.items f.lines.items (among s)
+  pub picked : (s : Marks) (h : ℕ) (z : ℤ) → Chosen nil plus above by on q before after s → h ≡ hours (listed f.stations) (among s) → z ≡ gain (listed f.stations) (listed f.lines) (among s)
       → Picked nil plus above by on (view p) (length before) s h z
   picked s h z c takes gains =
       subst (λ (v : Ledger). Picked nil plus above by on v (length before) s h z) (sym (view_is p f e))

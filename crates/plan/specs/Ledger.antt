@@ -5,6 +5,7 @@ use Rattle.plant.specs.declared.records.Line.{Line}
 use Rattle.plant.specs.declared.records.Station.{Station}
 use Rattle.plant.specs.declared.refusal.Reason.TheVariants as R
 use Rattle.plant.specs.declared.tree.Node.{Node}
+use Rattle.plant.specs.Tables.{listed}
 use Rattle.plant.specs.Nodes.{tree_of}
 use Rattle.plant.specs.Records.{station, line, hold_of}
 use Rattle.plant.specs.Trees.{Tree}
@@ -27,7 +28,7 @@ pub data Ledger : Type 0 where
   filled : Books → Ledger
 
 abbrev pub books : Filled → Books
-books f = record { stations = f.stations.items; lines = f.lines.items; tree = tree_of f.nodes.items; budget = f.budget }
+books f = record { stations = listed f.stations; lines = listed f.lines; tree = tree_of (listed f.nodes); budget = f.budget }
 
 abbrev pub shown : Option Filled → Ledger
 shown None = blank
@@ -39,15 +40,15 @@ view p = shown p.filled
 -- what a plan has of each; a blank one has none
 abbrev pub stations_in : Option Filled → List Station
 stations_in None = []
-stations_in (Some f) = f.stations.items
+stations_in (Some f) = listed f.stations
 
 abbrev pub lines_in : Option Filled → List Line
 lines_in None = []
-lines_in (Some f) = f.lines.items
+lines_in (Some f) = listed f.lines
 
 abbrev pub nodes_in : Option Filled → List Node
 nodes_in None = []
-nodes_in (Some f) = f.nodes.items
+nodes_in (Some f) = listed f.nodes
 
 abbrev pub budget_in : Option Filled → ℕ
 budget_in None = 0

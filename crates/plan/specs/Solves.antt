@@ -5,6 +5,7 @@ use Rattle.plant.specs.declared.records.Station.{Station}
 use Rattle.plant.specs.declared.refusal.Reason.TheVariants as R
 use Rattle.plant.specs.declared.refusal.Refusal.{Refusal}
 use Rattle.plant.specs.declared.selection.Selection.{Selection as Marks}
+use Rattle.plant.specs.Tables.{listed}
 use Rattle.plant.specs.Nodes.{size}
 use Rattle.plant.specs.Selections.{Selection, among, hours, gain, Fits}
 use Rattle.cells.specs.Best.{Best}
@@ -21,9 +22,9 @@ use Rattle.plan.specs.Replies.{call_refused}
 
 -- the plant that a filled plan lends
 pub record IsLent (f : Filled) (q : Plant) : Type 0 where
-  pub stations : q.stations.now ≡ f.stations.items
-  pub lines : q.lines.now ≡ f.lines.items
-  pub nodes : q.nodes.now ≡ f.nodes.items
+  pub stations : q.stations.now ≡ listed f.stations
+  pub lines : q.lines.now ≡ listed f.lines
+  pub nodes : q.nodes.now ≡ listed f.nodes
   pub budget : q.budget ≡ f.budget
 
 -- the cells that a solve needs

@@ -75,7 +75,7 @@ impl Plan {
             return Err(refuse(Reason::Blank, 0));
         };
         let k = station as usize;
-        if k >= filled.stations.len() {
+        if k >= filled.stations.count {
             return Err(refuse(Reason::NoSuchRecord, station));
         }
         if hours > MAX_HOURS {
@@ -87,10 +87,11 @@ impl Plan {
         if urgent > 1 {
             return Err(refuse(Reason::OutOfRange, 2));
         }
-        let row = &mut filled.stations[k];
+        let mut row = filled.stations.rows[k];
         row.hours = hours;
         row.gain = gain;
         row.urgent = urgent == 1;
+        filled.stations.rows[k] = row;
         Ok(())
     }
 
@@ -102,13 +103,13 @@ impl Plan {
             return Err(refuse(Reason::Blank, 0));
         };
         let k = station as usize;
-        if k >= filled.stations.len() {
+        if k >= filled.stations.count {
             return Err(refuse(Reason::NoSuchRecord, station));
         }
         let Ok(hold) = Hold::try_from(hold) else {
             return Err(refuse(Reason::OutOfRange, 0));
         };
-        filled.stations[k].hold = hold;
+        filled.stations.rows[k].hold = hold;
         Ok(())
     }
 
@@ -120,13 +121,13 @@ impl Plan {
             return Err(refuse(Reason::Blank, 0));
         };
         let k = line as usize;
-        if k >= filled.lines.len() {
+        if k >= filled.lines.count {
             return Err(refuse(Reason::NoSuchRecord, line));
         }
         if !is_gain(gain) {
             return Err(refuse(Reason::OutOfRange, 0));
         }
-        filled.lines[k].gain = gain;
+        filled.lines.rows[k].gain = gain;
         Ok(())
     }
 }

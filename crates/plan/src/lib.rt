@@ -4,10 +4,11 @@
 ghost use Rattle.std.specs.Prelude.{◌≤◌};
 ghost use Rattle.plant.specs.Nodes.{IsPlant};
 ghost use Rattle.plant.specs.Props.{plant_prop};
+ghost use Rattle.plant.specs.Tables.{listed};
 
-use arrayvec::ArrayVec;
 use plant::limits::{MAX_LINES, MAX_NODES, MAX_STATIONS};
 use plant::records::{Line, Station};
+use plant::table::Table;
 use plant::tree::Node;
 
 pub mod changes;
@@ -18,11 +19,11 @@ pub mod sheet;
 // What a plan holds once it is filled: a plant's records, the nodes of its tree, and the budget of hours.
 #[derive(Drop)]
 struct Filled {
-    stations: ArrayVec<Station, MAX_STATIONS>,
-    lines: ArrayVec<Line, MAX_LINES>,
-    nodes: ArrayVec<Node, MAX_NODES>,
+    stations: Table<Station, MAX_STATIONS>,
+    lines: Table<Line, MAX_LINES>,
+    nodes: Table<Node, MAX_NODES>,
     budget: u32,
-    ghost plant: { IsPlant stations.items lines.items nodes.items } by { plant_prop stations.items lines.items nodes.items },
+    ghost plant: { IsPlant (listed stations) (listed lines) (listed nodes) } by { plant_prop (listed stations) (listed lines) (listed nodes) },
     ghost cheap: { budget ≤ 1000 },
 }
 

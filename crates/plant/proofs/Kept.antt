@@ -5,8 +5,8 @@ use Rattle.std.proofs.lemmas.Bool.{cases_eq, cases_lt}
 use Rattle.plant.specs.declared.records.Line.{Line}
 use Rattle.plant.specs.declared.records.Station.{Station}
 use Rattle.plant.specs.declared.tree.Node.{Node}
-use Rattle.plant.specs.Nodes.{numbered, tree_of, IsPlant}
-use Rattle.plant.specs.Records.{LineInRange, no_line, line}
+use Rattle.plant.specs.Nodes.{numbered, tree_of, Drawn, IsPlant}
+use Rattle.plant.specs.Records.{StationInRange, LineInRange, no_station, no_line, line}
 use Rattle.plant.specs.Trees.{Net, net_of, Draws}
 
 -- a fact of each element stays where it holds of the new one
@@ -29,6 +29,16 @@ same_set f d xs k y e i =
     (cases_lt k (length xs)))
     (λ ne. ap f (get_or-set_other xs k i y d ne))
     (cases_eq i k)
+
+pub plant_set_station : (ss : List Station) (ls : List Line) (ns : List Node) (k : ℕ) (s : Station) → StationInRange s → IsPlant ss ls ns → IsPlant (set ss k s) ls ns
+plant_set_station ss ls ns k s fine p =
+    record {
+      stations = each_set StationInRange no_station ss k s fine p.stations;
+      lines = p.lines;
+      few_stations = omega (arith, length-set ss k s, p.few_stations);
+      few_lines = p.few_lines;
+      drawn = subst (λ n. Drawn n ls ns) (sym (length-set ss k s)) p.drawn;
+    }
 
 net_same : (ls : List Line) (k : ℕ) (l : Line) → l.from ≡ (line ls k).from → l.to ≡ (line ls k).to → net_of (set ls k l) ≡ net_of ls
 net_same ls k l f t =

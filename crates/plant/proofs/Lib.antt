@@ -1,3 +1,4 @@
 pub mod Sums
 pub mod Kept
 pub mod Made
+pub mod Listed

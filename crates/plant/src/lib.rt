@@ -7,4 +7,5 @@ pub mod refusal;
 pub mod selection;
 pub mod site;
 pub mod stack;
+pub mod table;
 pub mod tree;

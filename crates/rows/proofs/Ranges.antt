@@ -5,7 +5,8 @@ use Rattle.plant.specs.declared.records.Line.{Line}
 use Rattle.plant.specs.declared.records.Station.{Station}
 use Rattle.plant.specs.declared.refusal.Part.{Part}
 use Rattle.plant.specs.declared.refusal.Refusal.{Refusal}
-use Rattle.arrayvec.specs.ArrayVec.{ArrayVec}
+use Rattle.plant.specs.declared.table.Table.{Table}
+use Rattle.plant.specs.Tables.{listed}
 use Rattle.plant.specs.Records.{StationsInRange, LinesInRange, LinesBetween, no_station, no_line}
 use Rattle.rows.specs.Lines.{lines}
 use Rattle.rows.specs.Stations.{stations}
@@ -27,10 +28,10 @@ lines_ranged n s rows e =
     let w = (lines_accepted n).only_written s rows e in
     (λ k h. (All-get_or (Fair (line_form n)) rows k no_line h w.lists.fair).0, lines_between n s rows w, w.enough)
 
-pub stations_made : (part : Part) (s : List ℕ) (r : Result (ArrayVec Station) Refusal) → Agrees stations part s r → IfOk r (λ t. StationsInRange t.items × (2 ≤ length t.items))
-stations_made part s (Ok t) a = stations_ranged s t.items a
+pub stations_made : (part : Part) (s : List ℕ) (r : Result (Table Station 64) Refusal) → Agrees stations part s r → IfOk r (λ t. StationsInRange (listed t) × (2 ≤ length (listed t)))
+stations_made part s (Ok t) a = stations_ranged s (listed t) a
 stations_made part s (Err e) a = tt
 
-pub lines_made : (n : ℕ) (part : Part) (s : List ℕ) (r : Result (ArrayVec Line) Refusal) → Agrees (lines n) part s r → IfOk r (λ t. LinesInRange t.items × LinesBetween n t.items × (1 ≤ length t.items))
-lines_made n part s (Ok t) a = lines_ranged n s t.items a
+pub lines_made : (n : ℕ) (part : Part) (s : List ℕ) (r : Result (Table Line 128) Refusal) → Agrees (lines n) part s r → IfOk r (λ t. LinesInRange (listed t) × LinesBetween n (listed t) × (1 ≤ length (listed t)))
+lines_made n part s (Ok t) a = lines_ranged n s (listed t) a
 lines_made n part s (Err e) a = tt

@@ -5,7 +5,8 @@ use Rattle.plant.specs.declared.refusal.Reason.TheVariants as R
 use Rattle.plant.specs.declared.refusal.Part.{Part}
 use Rattle.plant.specs.declared.refusal.Refusal.{Refusal}
 use Rattle.std.specs.Borrow.{Bor}
-use Rattle.arrayvec.specs.ArrayVec.{ArrayVec}
+use Rattle.plant.specs.declared.table.Table.{Table}
+use Rattle.plant.specs.Tables.{listed}
 use Rattle.tables.specs.declared.grammar.Records.{Records}
 use Rattle.tables.specs.declared.grammar.State.TheVariants as S
 use Rattle.tables.specs.Machine.{Told, done, stuck, row, whole, run, good, bad}
@@ -50,15 +51,15 @@ abbrev pub verdict : {A : Type 0} → Rules A → List ℕ → Verdict A
 verdict U s = first U (length s) (whole s)
 
 -- an answer is the verdict
-abbrev pub Agrees : {A : Type 0} → Rules A → Part → List ℕ → Result (ArrayVec A) Refusal → Type 0
-Agrees U part s (Ok t) = verdict U s ≡ table t.items
+abbrev pub Agrees : {A : Type 0} {N : ℕ} → Rules A → Part → List ℕ → Result (Table A N) Refusal → Type 0
+Agrees U part s (Ok t) = verdict U s ≡ table (listed t)
 Agrees U part s (Err e) = (verdict U s ≡ refused e.reason e.place) × (e.part ≡ part)
 
 -- the next record is read, or refused
-abbrev pub Found : Part → Records → Records → Result (ArrayVec (Bor (List ℕ))) Refusal → Type 0
+abbrev pub Found : Part → Records → Records → Result (Table (Bor (List ℕ)) 6) Refusal → Type 0
 Found part before after' (Ok f) = (ps : List (List ℕ)) × (run (G.rest before) S.Start [] [] ≡ good ps (G.rest after')) × (held f ≡ take 6 ps)
 Found part before after' (Err e) = (run (G.rest before) S.Start [] [] ≡ bad (G.rest after')) × (e ≡ record { reason = R.TableGrammar; part = part; place = after'.pos })
 
-pub record NextRecord (part : Part) (before after' : Records) (r : Result (ArrayVec (Bor (List ℕ))) Refusal) : Type 0 where
+pub record NextRecord (part : Part) (before after' : Records) (r : Result (Table (Bor (List ℕ)) 6) Refusal) : Type 0 where
   pub src : after'.src ≡ before.src
   pub found : Found part before after' r

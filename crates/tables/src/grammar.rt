@@ -4,7 +4,7 @@ ghost use Rattle.tables.specs.Laws.{Complete, Sound as IsSound, Placed, Means, R
 ghost use Rattle.tables.specs.Fields.{held};
 ghost use Rattle.tables.specs.Machine.{class as class_of, next as next_of};
 
-use arrayvec::ArrayVec;
+use plant::table::Table;
 
 // Where a record stands after the bytes so far.
 #[derive(Clone, Copy)]
@@ -45,15 +45,13 @@ pub struct Fault {
 pub const MAX_FIELDS: usize = 6;
 
 // The first six fields of a record as parts of the text, or all where they are fewer.
-pub type Fields<'a> = ArrayVec<&'a [u8], MAX_FIELDS>;
+pub type Fields<'a> = Table<&'a [u8], MAX_FIELDS>;
 
 // Holds a part where there is room for it.
 fn push<'a>(fields: &mut Fields<'a>, part: &'a [u8])
     ensures { held fields.new ≡ take 6 (held fields.old ++ part.now ∷ []) }
 {
-    if !fields.is_full() {
-        fields.push(part);
-    }
+    fields.push(part);
 }
 
 // What stands between the quotes of a quoted field, with each quote of its contents still doubled; a bare field as it is.
@@ -134,7 +132,7 @@ impl<'a> Records<'a> {
     pub fn next_record(&mut self) -> Result<Fields<'a>, Fault>
         ensures { ReadsRecord self.old self.new result }
     {
-        let mut fields = Fields::new();
+        let mut fields = Fields::new(&self.src[..0]);
         let mut from = self.pos;
         let mut state = State::Start;
         while let Some(b) = self.peek() {

@@ -7,6 +7,7 @@ use Rattle.plant.specs.declared.refusal.Part.TheVariants as P
 use Rattle.plant.specs.declared.refusal.Reason.{Reason}
 use Rattle.plant.specs.declared.refusal.Reason.TheVariants.{TextTooLong}
 use Rattle.plant.specs.declared.refusal.Refusal.{Refusal}
+use Rattle.plant.specs.Tables.{listed}
 use Rattle.plant.specs.Nodes.{IsPlant, tree_of}
 use Rattle.plant.specs.Trees.{Tree}
 use Rattle.rows.specs.Lines.{lines}
@@ -48,9 +49,9 @@ verdict ss ls tree =
 
 -- a reading of an accepted plant
 pub record IsRead (ss ls tree : List ℕ) (p : Reading) : Type 0 where
-  pub judged : verdict ss ls tree ≡ accepted p.stations.items p.lines.items (tree_of p.nodes.items)
-  pub plant : IsPlant p.stations.items p.lines.items p.nodes.items
-  pub few_nodes : length p.nodes.items ≤ 255
+  pub judged : verdict ss ls tree ≡ accepted (listed p.stations) (listed p.lines) (tree_of (listed p.nodes))
+  pub plant : IsPlant (listed p.stations) (listed p.lines) (listed p.nodes)
+  pub few_nodes : length (listed p.nodes) ≤ 255
 
 -- the answer is the verdict
 abbrev pub Answers : List ℕ → List ℕ → List ℕ → Result Reading Refusal → Type 0

@@ -2,20 +2,20 @@
 ghost use Rattle.std.specs.Prelude.{◌≡◌, ℕ, ◌<◌, ◌≤◌, length, MatchResult};
 ghost use Rattle.texts.specs.Verdict.{Answers};
 
-use arrayvec::ArrayVec;
 use plant::limits::{MAX_LINES, MAX_NODES, MAX_STATIONS};
 use plant::records::{Line, Station};
 use plant::refusal::{Part, Reason, Refusal};
+use plant::table::Table;
 use plant::tree::Node;
 use rows::read::{read_lines, read_stations};
 use rows::text::Text;
 
 // What three texts write: a plant's records, and the nodes of its tree.
-#[derive(Drop)]
+#[derive(Clone, Copy)]
 pub struct Reading {
-    pub stations: ArrayVec<Station, MAX_STATIONS>,
-    pub lines: ArrayVec<Line, MAX_LINES>,
-    pub nodes: ArrayVec<Node, MAX_NODES>,
+    pub stations: Table<Station, MAX_STATIONS>,
+    pub lines: Table<Line, MAX_LINES>,
+    pub nodes: Table<Node, MAX_NODES>,
 }
 
 fn within<'a>(text: &'a [u8], part: Part) -> Result<Text<'a>, Refusal>
@@ -31,8 +31,8 @@ pub fn read(stations: &[u8], lines: &[u8], tree: &[u8]) -> Result<Reading, Refus
     let lines_text = within(lines, Part::Lines)?;
     let tree_text = within(tree, Part::Tree)?;
     let stations = read_stations(stations_text)?;
-    let lines = read_lines(lines_text, stations.len())?;
-    let nodes = drawing::read(tree_text.bytes, stations.len(), &lines)?;
+    let lines = read_lines(lines_text, stations.count)?;
+    let nodes = drawing::read(tree_text.bytes, stations.count, lines.as_slice())?;
     Ok(Reading {
         stations,
         lines,

@@ -1,7 +1,9 @@
 use Rattle.std.proofs.Common.{◌≡◌, ℕ, ◌≤◌, List, length, sym, ap, ◌∙◌, subst, arith}
 use Rattle.plant.specs.declared.records.Line.{Line}
 use Rattle.plant.specs.Nodes.{Drawn, tree_of}
+use Rattle.plant.specs.Tables.{listed}
 use Rattle.plant.specs.Trees.{net_of}
+use Rattle.plant.proofs.Listed.{listed_length}
 use Rattle.drawing.specs.Verdict as Drawing
 use Rattle.drawing.proofs.Numbering.{tree_of_numbered}
 use Rattle.texts.specs.Verdict.{on_tree, accepted, verdict}
@@ -10,22 +12,24 @@ use Rattle.texts.proofs.read.read.Goals as goal
 
 pub returns : goal.returns
 returns c =
-    let a = c.in_ok-stations.stations.items in
-    let b = c.in_ok-lines.lines.items in
-    let ns = c.in_ok-nodes.nodes.items in
+    let st = c.in_ok-stations.stations in
+    let a = listed st in
+    let li = c.in_ok-lines.lines in
+    let b = listed li in
+    let ns = listed c.in_ok-nodes.nodes in
     let s = c.in_ok-stations_text.stations_text in
     let l = c.in_ok-lines_text.lines_text in
     let t = c.in_ok-tree_text.tree_text in
     let tree = t.bytes.now in
     let fine = c.in_ok-nodes.ensures in
-    let count : c.len-2.result ≡ length a = c.len-2.ensures.value in
-    let same : c.deref.result.now ≡ b = c.deref.ensures.0 in
-    let read = tables_read s.bytes.now l.bytes.now tree a b c.len.result s.short l.short t.short c.len.ensures.value c.in_ok-stations.ensures.verdict c.in_ok-lines.ensures.verdict in
+    let count : st.count ≡ length a = sym (listed_length st) in
+    let same : c.as_slice.result.now ≡ b = c.as_slice.ensures in
+    let read = tables_read s.bytes.now l.bytes.now tree a b st.count s.short l.short t.short count c.in_ok-stations.ensures.verdict c.in_ok-lines.ensures.verdict in
     let texts : verdict c.args.stations.now c.args.lines.now c.args.tree.now ≡ verdict s.bytes.now l.bytes.now tree = λ i. verdict (sym c.in_ok-stations_text.ensures i).now (sym c.in_ok-lines_text.ensures i).now (sym c.in_ok-tree_text.ensures i).now in
     let judged : Drawing.verdict (length a) b tree ≡ Drawing.accepted fine.tree = (λ i. Drawing.verdict (sym count i) (sym same i) tree) ∙ fine.judged in
-    let back : fine.tree ≡ tree_of ns = sym (ap tree_of fine.nodes ∙ tree_of_numbered (net_of c.deref.result.now) fine.tree) in
-    let few_stations : length a ≤ 64 = omega (arith, c.len-2.ensures.fits) in
-    let few_lines : length b ≤ 128 = omega (arith, c.deref.ensures.1, ap length same) in
+    let back : fine.tree ≡ tree_of ns = sym (ap tree_of fine.nodes ∙ tree_of_numbered (net_of c.as_slice.result.now) fine.tree) in
+    let few_stations : length a ≤ 64 = omega (arith, count, st.sound.1) in
+    let few_lines : length b ≤ 128 = omega (arith, listed_length li, li.sound.1) in
     record {
       judged = texts ∙ read ∙ ap (on_tree a b) judged ∙ ap (accepted a b) back;
       plant =
