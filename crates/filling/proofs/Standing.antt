@@ -19,7 +19,7 @@ use Rattle.std.proofs.lemmas.Bool.{eq-eqb}
 use Rattle.cells.specs.Traces.{first_of, second_of}
 use Rattle.cells.specs.Whole.{Whole}
 use Rattle.cells.proofs.Counting.{size_leaves, whole_leaves}
-use Rattle.cells.proofs.Filling.{row_within, done_kept}
+use Rattle.cells.proofs.Filling.{bit_small, row_within, done_kept}
 use Rattle.cells.proofs.Leaves.{draws_whole, scores_modest, ends_within, inner_within}
 use Rattle.cells.proofs.Pieces.{left_on, right_on}
 use Rattle.cells.proofs.Root.{whole_records}
@@ -154,6 +154,12 @@ reach_join p v j a b x y z r at ex ey ez er =
     let e = ap (most (site p)) at.tree_is ∙ most_join (site p) j (sub (tree p) a) (sub (tree p) b) in
     let f = ap (λ (mid : ℕ). between_hours (site p) j mid true) at.middle_is in
     omega arith
+
+-- rows begin at small numbers
+pub row_small : (w v : ℕ) (l r : Bool) → w ≤ 1001 → v < 255 → row_start w v l r ≤ 1020019
+row_small w v l r lw lv =
+    let le : 4 * v + 2 * bit l + bit r ≤ 1019 = omega (arith, bit_small l, bit_small r) in
+    omega (arith, mul-le-mul_right w le)
 
 -- what was filled stays so while later rows are written
 pub filled_kept : {F : Type 0} {nil : F} {plus : F → F → F} {above : F → F → Bool} {f : Station → F} {g : Line → F} (p : Plant) (xs ys : List (Option F)) (v : ℕ) (l r : Bool) → length ys ≡ length xs

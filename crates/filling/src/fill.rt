@@ -1,9 +1,10 @@
 // Filling the tables, node by node in the order of their numbers.
-ghost use Rattle.std.specs.Prelude.{◌≡◌, ◌+◌, ◌<◌, ◌≤◌, min, true, length};
+ghost use Rattle.std.specs.Prelude.{◌≡◌, ℕ, ◌+◌, ◌<◌, ◌≤◌, min, true, None, length};
 ghost use Rattle.plant.specs.Records.{line as line_at};
 ghost use Rattle.cells.specs.Joins.{between_hours};
 ghost use Rattle.cells.specs.Subtrees.{sub};
 ghost use Rattle.cells.specs.Tables.{most};
+ghost use Rattle.cells.specs.Tops.{cell_of};
 ghost use Rattle.filling.specs.Sites.{site, tree, Room, Known, middle, leaf_cell};
 ghost use Rattle.filling.specs.Tabled.{FilledBelow, BestAt, BestThrough, Begun, FillsRow, FillsNodes};
 
@@ -118,7 +119,20 @@ fn reach_of(plant: &Plant<'_>, reach: &[usize], node: usize) -> usize
     }
 }
 
+// Leaves the cells from one place up to another absent.
+fn clear<F: Copy>(cells: &mut [Cell<F>], from: usize, to: usize)
+    requires { (from ≤ to) × (to ≤ length cells.old) }
+    ensures absent { (k : ℕ) → from ≤ k → k < to → cell_of cells.new k ≡ None }
+    ensures below { (k : ℕ) → k < from → cell_of cells.new k ≡ cell_of cells.old k }
+    ensures past { (k : ℕ) → to ≤ k → cell_of cells.new k ≡ cell_of cells.old k }
+{
+    for at in from..to {
+        put_cell(cells, at, None);
+    }
+}
+
 // Fills the row of a node and two states of its ends. The cells are lent to be written here, so they come apart from the tables to be read.
+// Most of many rows lies past the reach of their node, so no choice is looked for there.
 fn fill_row<'p, Y: Yardstick>(
     plant: &'p Plant<'p>,
     y: &Y,
@@ -134,17 +148,20 @@ fn fill_row<'p, Y: Yardstick>(
     ensures { FillsRow Y.Yardstick plant.now cells.old cells.new node left right }
 {
     let width = plant.budget as usize + 1;
-    for hours in 0..width {
-        let spot = Spot {
-            node,
-            left,
-            right,
-            hours,
-        };
+    let past = reach[node] + 1;
+    let row = Spot {
+        node,
+        left,
+        right,
+        hours: 0,
+    };
+    let begin = row.place(width);
+    for hours in 0..past {
         let tables = Tables { plant, y, cells };
-        let cell = cell_at(&tables, reach, spot);
-        put_cell(cells, spot.place(width), cell);
+        let cell = cell_at(&tables, reach, Spot { hours, ..row });
+        put_cell(cells, begin + hours, cell);
     }
+    clear(cells, begin + past, begin + width);
 }
 
 // Fills the four rows of a node: four calls, since two loops over the states would be no plainer.

@@ -1,5 +1,5 @@
 -- Bytes laid one after another, and numbers among them.
-use Rattle.std.proofs.Common.{◌≡◌, ℕ, suc, ◌+◌, ◌-◌, ◌^◌, ◌<◌, ◌≤◌, ◌⊎◌, min, List, [], ◌∷◌, ◌++◌, ℤ, pos, negsuc, length, take, drop, set, sym, ap, ◌∙◌, subst, w64, SFits, to_z, of_z, inl, inr, ⊎_elim, append_assoc, arith}
+use Rattle.std.proofs.Common.{◌≡◌, ℕ, suc, ◌+◌, ◌-◌, ◌^◌, ◌<◌, ◌≤◌, ◌⊎◌, min, List, [], ◌∷◌, ◌++◌, ℤ, pos, negsuc, length, take, drop, set, refl, sym, ap, ◌∙◌, subst, w64, SFits, to_z, of_z, inl, inr, ⊎_elim, append_assoc, arith}
 use Rattle.std.proofs.lemmas.List.{length-set, length-append, length-map, take_more_set, take_all, take_min, drop_all, drop_min, drop-drop, drop-set-lt, take-append-drop, set_past}
 use Rattle.std.proofs.Math.Seq.{take-nil}
 use Rattle.std.proofs.lemmas.Int.Digits.{length-digits_of-le}
@@ -63,6 +63,11 @@ laid_is m p (b ∷ bs) =
     ∙ (λ i. take_all (p + 1) m (omega arith) i ++ (take (none_after i) bs ++ drop_all (p + 1 + length bs) m (omega arith) i))
     ∙ sym (λ i. take_all p m past i ++ (take (none i) (b ∷ bs) ++ drop_all (p + length (b ∷ bs)) m (omega arith) i)))
     (cases_lt p (length m))
+
+-- past the end nothing is laid
+pub laid_past : (m bs : List ℕ) (p : ℕ) → length m ≤ p → laid m p bs ≡ m
+laid_past m [] p h = refl
+laid_past m (b ∷ bs) p h = ap (λ l. laid l (p + 1) bs) (set_past m p b h) ∙ laid_past m bs (p + 1) (omega arith)
 
 pub laid_part : (m bs : List ℕ) (p a k : ℕ) → a ≡ min p (length m) → k ≡ min (length bs) (length m - a) → laid m p bs ≡ take a m ++ (take k bs ++ drop k (drop a m))
 laid_part m bs p a k at fit =

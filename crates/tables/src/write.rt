@@ -1,8 +1,19 @@
 // Text printed into lent memory.
 ghost use Rattle.std.specs.Prelude.{◌≡◌, ℕ, ◌^◌, ◌<◌, ◌≤◌, List, length};
-ghost use Rattle.tables.specs.Laid.{Adds, Whole};
+ghost use Rattle.tables.specs.Laid.{laid, Adds, Whole};
 
 use itoa::{Buffer, Integer};
+
+// Lays bytes into memory from a place on, as far as they fit. Past its end, as where nothing but the need is counted, there is nothing to do.
+fn lay(out: &mut [u8], at: usize, bytes: &[u8])
+    ensures { out.new ≡ laid out.old at bytes.now }
+{
+    if at >= out.len() {
+        return;
+    }
+    let fit = bytes.len().min(out.len() - at);
+    out[at..at + fit].copy_from_slice(&bytes[..fit]);
+}
 
 // Lays text into lent memory from its start on. What does not fit is not written, but counts: so a first writing into no memory tells
 // how much is needed.
@@ -26,9 +37,7 @@ impl<'a> Writer<'a> {
         ensures { Adds self.old s.now self.new }
     {
         let bytes = s.as_bytes();
-        let from = self.at.min(self.out.len());
-        let fit = bytes.len().min(self.out.len() - from);
-        self.out[from..from + fit].copy_from_slice(&bytes[..fit]);
+        lay(self.out, self.at, bytes);
         self.at = self.at.saturating_add(bytes.len());
     }
 
