@@ -1,5 +1,5 @@
 // A list of records with room for so many. It is copied as one value, which a vector of fixed capacity is not.
-ghost use Rattle.std.specs.Prelude.{◌≡◌, ◌≤◌, ⊤, length};
+ghost use Rattle.std.specs.Prelude.{◌≡◌, ℕ, ◌<◌, ◌≤◌, length, slice_index_or};
 
 use std::alloc::AllocError;
 
@@ -10,13 +10,19 @@ pub struct Table<T, const N: usize> {
     pub ghost sound: { (length rows ≡ N) × (count ≤ N) },
 }
 
-impl<T: Copy, const N: usize> Clone for Table<T, N> {
-    ghost is_clone = { λ t u. u ≡ t };
+impl<T: Clone, const N: usize> Clone for Table<T, N> {
+    ghost use Rattle.std.specs.Array.{AllZipBelow};
+    ghost use Rattle.std.specs.Array.Iter.{IntoIterFitsInMemory};
 
-    ghost is_infallible = { λ t. ⊤ };
+    ghost is_clone = { λ t u. AllZipBelow T.is_clone t.rows u.rows N × (u.count ≡ t.count) };
+
+    ghost is_infallible = { λ t. IntoIterFitsInMemory T.row N.row × ((i : ℕ) (d : T) → i < N → T.is_infallible (slice_index_or t.rows i d)) };
 
     fn clone(&self) -> Result<Self, AllocError> {
-        Ok(*self)
+        Ok(Table {
+            rows: self.rows.clone()?,
+            count: self.count,
+        })
     }
 }
 

@@ -46,6 +46,7 @@ pub fn read<K: Kind, const N: usize>(
         let row = kind
             .judge(k, fields.as_slice())
             .map_err(|reason| part.refusal(reason, k as u32))?;
+        // There is room: no row past the most is judged fine.
         rows.push(row);
     }
     if rows.count < K::LEAST {
