@@ -28,10 +28,10 @@ lines_ranged n s rows e =
     let w = (lines_accepted n).only_written s rows e in
     (λ k h. (All-get_or (Fair (line_form n)) rows k no_line h w.lists.fair).0, lines_between n s rows w, w.enough)
 
-pub stations_made : (part : Part) (s : List ℕ) (r : Result (Table Station 64) Refusal) → Agrees stations part s r → IfOk r (λ t. StationsInRange (listed t) × (2 ≤ length (listed t)))
+pub stations_made : {N : ℕ} (part : Part) (s : List ℕ) (r : Result (Table Station N) Refusal) → Agrees stations part s r → IfOk r (λ t. StationsInRange (listed t) × (2 ≤ length (listed t)))
 stations_made part s (Ok t) a = stations_ranged s (listed t) a
 stations_made part s (Err e) a = tt
 
-pub lines_made : (n : ℕ) (part : Part) (s : List ℕ) (r : Result (Table Line 128) Refusal) → Agrees (lines n) part s r → IfOk r (λ t. LinesInRange (listed t) × LinesBetween n (listed t) × (1 ≤ length (listed t)))
+pub lines_made : {N : ℕ} (n : ℕ) (part : Part) (s : List ℕ) (r : Result (Table Line N) Refusal) → Agrees (lines n) part s r → IfOk r (λ t. LinesInRange (listed t) × LinesBetween n (listed t) × (1 ≤ length (listed t)))
 lines_made n part s (Ok t) a = lines_ranged n s (listed t) a
 lines_made n part s (Err e) a = tt

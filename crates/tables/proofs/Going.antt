@@ -28,7 +28,7 @@ pub record Going (before at : Records) (st : State) (from : ℕ) (f : Table (Bor
 abbrev now_of : Bor (List ℕ) → List ℕ
 now_of p = p.now
 
-push_none : (xs : List (Bor (List ℕ))) (p : List ℕ) → length xs ≡ 6 → map now_of xs ≡ take 6 (map now_of xs ++ p ∷ [])
+pub push_none : (xs : List (Bor (List ℕ))) (p : List ℕ) → length xs ≡ 6 → map (λ q. q.now) xs ≡ take 6 (map (λ q. q.now) xs ++ p ∷ [])
 push_none xs p full =
     let ms = map now_of xs in
     let long : length ms ≡ 6 = length-map xs now_of ∙ full in
